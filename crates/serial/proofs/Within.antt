@@ -1,0 +1,48 @@
+-- What the machine's tests of an i64 say of the number itself, and what a call of `within` tells.
+use mathlib.Core.Path.{_≡_, refl, sym, ap, _∙_}
+use mathlib.Core.Bool.{Bool, true, false, cond, _&&_}
+use Prim.Native.Nat.{ℕ, _<_, _≤_, _^_}
+use native.Mathlib.Omega.{arith}
+use lib.IntN.{ℤ, pos, negsuc, natAbs}
+use lib.Signed.{ltZ, nonNeg}
+use lib.Dec.{T, leb}
+use mir.Syntax.{w32, w64}
+use mir.Val.{SFits, Fits, toZ, ofZ}
+use mir.ValLaws.{toZ-pos}
+use mir.Facts.{toZ-ofZ}
+use borrow.Author.Tests.{ltb-true, ltb-false, le-leb, lt-leb}
+use Rattle.serial.specs.Range.{withinOf}
+use Rattle.serial.specs.declared.range.Ranged.{Ranged}
+use Rattle.serial.specs.declared.range.Ranged.the-variants.{In, Out}
+
+-- the result v of a call of `within` at z, under f
+pub told : {A : Type 0} (f : Ranged → A) {r v : Ranged} {z : ℤ} (low high : ℕ) → r ≡ v → r ≡ withinOf (toZ w64 (ofZ w64 z)) low high → SFits w64 z → f v ≡ f (withinOf z low high)
+told f low high given ensures fits = ap f (sym given ∙ ensures ∙ ap (λ y. withinOf y low high) (toZ-ofZ fits))
+
+-- a bound of 32 bits, compared with x from either side
+module _ (x : ℤ) (n : ℕ) (b : Bool) (fx : SFits w64 x) (fn : Fits w32 n) where
+  small : n < 2 ^ 63
+  small = omega (arith, fn .fits)
+
+  pub below : ltZ (toZ w64 (ofZ w64 x)) (toZ w64 n) ≡ b → ltZ x (pos n) ≡ b
+  below e = rw (toZ-ofZ {w = w64} fx, toZ-pos w64 n small) at e
+
+  pub above : ltZ (toZ w64 n) (toZ w64 (ofZ w64 x)) ≡ b → ltZ (pos n) x ≡ b
+  above e = rw (toZ-ofZ {w = w64} fx, toZ-pos w64 n small) at e
+
+pub out-low : (x : ℤ) (low high : ℕ) → ltZ x (pos low) ≡ true → Out ≡ withinOf x low high
+out-low (pos n) low high e = rw (lt-leb low n (ltb-true n low e))
+out-low (negsuc n) low high e = refl
+
+pub out-high : (x : ℤ) (low high : ℕ) → ltZ x (pos low) ≡ false → ltZ (pos high) x ≡ true → Out ≡ withinOf x low high
+out-high (pos n) low high e f = rw (le-leb low n (ltb-false n low e), lt-leb n high (ltb-true high n f))
+out-high (negsuc n) low high e f = refl
+
+module _ (low high : ℕ) where
+  pub in-range : (x : ℤ) → ltZ x (pos low) ≡ false → ltZ (pos high) x ≡ false → In (natAbs x) ≡ withinOf x low high
+  in-range (pos n) e f = rw (le-leb low n (ltb-false n low e), le-leb n high (ltb-false high n f))
+  in-range (negsuc n) e f = cc
+
+  pub in-bits : (x : ℤ) → Fits w32 high → ltZ x (pos low) ≡ false → ltZ (pos high) x ≡ false → T (nonNeg x) × Fits w32 (natAbs x)
+  in-bits (pos n) h e f = (tt, record { fits = omega (arith, ltb-false high n f, h .fits) })
+  in-bits (negsuc n) h e f = absurd (let z : _≡_ {A = ℕ} 0 1 = cc in omega arith)

@@ -1,0 +1,32 @@
+use mathlib.Core.Path.{refl}
+use Rattle.below.specs.Below.{allBelow}
+use Rattle.serial.specs.Account.{table}
+use Rattle.serial.proofs.Table.{inside, past-row, past-rows}
+use borrow.Author.Needs.{needs}
+use Rattle.serial.proofs.account.Account.rule_of.Statement.{statement}
+use Rattle.serial.proofs.account.Account.rule_of.Tie as tie
+
+mul-result : tie.Need-mul-result
+mul-result c = search needs
+
+index-1-result : tie.Need-index-1-result
+index-1-result c = search needs
+
+index-2-result : tie.Need-index-2-result
+index-2-result c = search needs
+
+returns : tie.Need-returns
+unfolding allBelow
+returns c = inside table 4 refl (c .before .before .before .args .asking) (c .before .before .before .args .held) (c .before .before .if1 .taken) (c .before .if2 .taken)
+
+returns-2 : tie.Need-returns-2
+unfolding allBelow
+returns-2 c = past-row table 4 refl (c .before .before .args .asking) (c .before .before .args .held) (c .before .if1 .taken) (c .if2 .left)
+
+returns-3 : tie.Need-returns-3
+unfolding allBelow
+returns-3 c = past-rows table 4 refl (c .before .args .asking) (c .before .args .held) (c .if1 .left)
+
+pub rule-of-spec : {M : Type 1} → statement M
+rule-of-spec =
+    tie.close (tie.spec mul-result index-1-result index-2-result returns returns-2 returns-3)

@@ -1,0 +1,74 @@
+-- A, account. Source: document 01, "Objects and numbers" and "The conflict table".
+use Prim.Native.Nat.{ℕ, _+_, _-_}
+use mathlib.Core.Bool.{cond}
+use mathlib.Core.List.{List, [], _∷_}
+use lib.IntN.{ℤ}
+use lib.Dec.{leb, eqb}
+use Rattle.serial.specs.declared.account.Account.{Account}
+use Rattle.serial.specs.declared.account.AccountOperation.{AccountOperation}
+use Rattle.serial.specs.declared.account.AccountOperation.the-variants.{Balance, Deposit, Withdraw}
+use Rattle.serial.specs.declared.State.{State}
+use Rattle.serial.specs.declared.State.the-variants as S
+use Rattle.serial.specs.declared.Operation.{Operation}
+use Rattle.serial.specs.declared.Operation.the-variants as O
+use Rattle.serial.specs.declared.Outcome.{Outcome}
+use Rattle.serial.specs.declared.Outcome.the-variants.{Ok, Fail, Value}
+use Rattle.serial.specs.declared.Stepped.{Stepped}
+use Rattle.serial.specs.declared.Recalled.{Recalled}
+use Rattle.serial.specs.declared.Recalled.the-variants.{Unshaped}
+use Rattle.serial.specs.declared.Opening.{Opening}
+use Rattle.serial.specs.declared.Decoded.{Decoded}
+use Rattle.serial.specs.declared.Decoded.the-variants.{Unfit}
+use Rattle.serial.specs.declared.Class.{Class}
+use Rattle.serial.specs.declared.Class.the-variants.{Row, None}
+use Rattle.serial.specs.declared.Rule.{Rule}
+use Rattle.serial.specs.declared.Rule.the-variants.{Pass, Conflict}
+use Rattle.serial.specs.Range.{withinOf, opens, fits, gives, plainOf}
+
+-- the account with this balance
+abbrev pub holding : ℕ → State
+holding n = S.Account (record { balance = n })
+
+-- opening 0 to 1,000,000,000
+abbrev pub openedOf : ℤ → Opening
+openedOf opening = opens holding (withinOf opening 0 1000000000)
+
+-- 1 balance (argument 0), 2 deposit and 3 withdraw (argument 1 to 1,000,000)
+abbrev pub decodeOf : ℕ → ℤ → Decoded
+decodeOf operation argument =
+    cond (eqb operation 1) (fits (λ n. O.Account Balance) (withinOf argument 0 0))
+    (cond (eqb operation 2) (fits (λ n. O.Account (Deposit n)) (withinOf argument 1 1000000))
+    (cond (eqb operation 3) (fits (λ n. O.Account (Withdraw n)) (withinOf argument 1 1000000)) Unfit))
+
+-- a withdrawal succeeds if the balance is at least the amount; otherwise it answers FAIL and changes nothing
+abbrev pub stepOf : Account → AccountOperation → Stepped
+stepOf account Balance = record { state = S.Account account; outcome = Value (account .balance) }
+stepOf account (Deposit n) = record { state = holding (account .balance + n); outcome = Ok }
+stepOf account (Withdraw n) =
+    cond (leb n (account .balance)) (record { state = holding (account .balance - n); outcome = Ok })
+    (record { state = S.Account account; outcome = Fail })
+
+-- the outcomes that an operation allows, by a and b: a balance from 0 to 2,024,000,000, the largest opening and 1,024 deposits of the largest size
+abbrev pub recallOf : AccountOperation → ℕ → ℤ → Recalled
+recallOf Balance a b = cond (eqb a 2) (gives Value (withinOf b 0 2024000000)) Unshaped
+recallOf (Deposit n) a b = cond (eqb a 1) (plainOf Ok b) Unshaped
+recallOf (Withdraw n) a b = cond (eqb a 1) (plainOf Ok b) (cond (eqb a 0) (plainOf Fail b) Unshaped)
+
+-- the row of each class of answer: balance, deposit, withdraw OK, withdraw FAIL
+abbrev pub classOf : AccountOperation → Outcome → Class
+classOf Balance (Value v) = Row 0
+classOf Balance Ok = None
+classOf Balance Fail = None
+classOf (Deposit n) Ok = Row 1
+classOf (Deposit n) Fail = None
+classOf (Deposit n) (Value v) = None
+classOf (Withdraw n) Ok = Row 2
+classOf (Withdraw n) Fail = Row 3
+classOf (Withdraw n) (Value v) = None
+
+abbrev pub table : List (List Rule)
+table =
+    (Pass ∷ Conflict ∷ Conflict ∷ Pass ∷ []) ∷
+    (Conflict ∷ Pass ∷ Pass ∷ Conflict ∷ []) ∷
+    (Conflict ∷ Pass ∷ Conflict ∷ Pass ∷ []) ∷
+    (Pass ∷ Conflict ∷ Pass ∷ Pass ∷ []) ∷ []

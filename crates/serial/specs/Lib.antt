@@ -1,0 +1,5 @@
+pub mod Range
+pub mod Account
+pub mod Register
+pub mod Serial
+pub mod Object

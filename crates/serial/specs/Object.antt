@@ -1,0 +1,31 @@
+-- Each kind as a serial object of the paper, over all its states. Source: document 01, "The conflict table".
+use Prim.Native.Nat.{ℕ, _≤_}
+use Rattle.theory.specs.Serial.{Serial, Op}
+use Rattle.serial.specs.declared.Kind.{Kind}
+use Rattle.serial.specs.declared.Kind.the-variants.{Account, Register}
+use Rattle.serial.specs.declared.State.{State}
+use Rattle.serial.specs.declared.Operation.{Operation}
+use Rattle.serial.specs.declared.Outcome.{Outcome}
+use Rattle.serial.specs.declared.Answered.{Answered}
+use Rattle.serial.specs.Serial.{stepOf}
+use Rattle.serial.specs.Account as A
+use Rattle.serial.specs.Register as R
+
+-- all whole numbers from 0 for an account, and 0 to 1,000,000,000 for a register
+pub data StateOf : Kind → State → Type 0 where
+  account : {n : ℕ} → StateOf Account (A.holding n)
+  register : {n : ℕ} → n ≤ 1000000000 → StateOf Register (R.holding n)
+
+abbrev pub objectOf : Kind → Serial
+objectOf kind = record {
+  State = State;
+  Has = StateOf kind;
+  Ask = Operation;
+  Reply = Outcome;
+  answer = λ s o. stepOf s o .outcome;
+  next = λ s o. stepOf s o .state;
+}
+
+-- an operation with its outcome, as the paper's operation
+abbrev pub opOf : (kind : Kind) → Answered → Op (objectOf kind)
+opOf kind p = record { ask = p .operation; reply = p .outcome }

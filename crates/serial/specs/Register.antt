@@ -1,0 +1,63 @@
+-- R, register. Source: document 01, "Objects and numbers" and "The conflict table".
+use Prim.Native.Nat.{ℕ}
+use mathlib.Core.Bool.{cond}
+use mathlib.Core.List.{List, [], _∷_}
+use lib.IntN.{ℤ}
+use lib.Dec.{eqb}
+use Rattle.serial.specs.declared.register.Register.{Register}
+use Rattle.serial.specs.declared.register.RegisterOperation.{RegisterOperation}
+use Rattle.serial.specs.declared.register.RegisterOperation.the-variants.{Read, Write}
+use Rattle.serial.specs.declared.State.{State}
+use Rattle.serial.specs.declared.State.the-variants as S
+use Rattle.serial.specs.declared.Operation.{Operation}
+use Rattle.serial.specs.declared.Operation.the-variants as O
+use Rattle.serial.specs.declared.Outcome.{Outcome}
+use Rattle.serial.specs.declared.Outcome.the-variants.{Ok, Fail, Value}
+use Rattle.serial.specs.declared.Stepped.{Stepped}
+use Rattle.serial.specs.declared.Recalled.{Recalled}
+use Rattle.serial.specs.declared.Recalled.the-variants.{Unshaped}
+use Rattle.serial.specs.declared.Opening.{Opening}
+use Rattle.serial.specs.declared.Decoded.{Decoded}
+use Rattle.serial.specs.declared.Decoded.the-variants.{Unfit}
+use Rattle.serial.specs.declared.Class.{Class}
+use Rattle.serial.specs.declared.Class.the-variants.{Row, None}
+use Rattle.serial.specs.declared.Rule.{Rule}
+use Rattle.serial.specs.declared.Rule.the-variants.{Pass, Conflict}
+use Rattle.serial.specs.Range.{withinOf, opens, fits, gives, plainOf}
+
+-- the register with this value
+abbrev pub holding : ℕ → State
+holding n = S.Register (record { value = n })
+
+-- opening 0 to 1,000,000,000
+abbrev pub openedOf : ℤ → Opening
+openedOf opening = opens holding (withinOf opening 0 1000000000)
+
+-- 4 read (argument 0), 5 write (argument 0 to 1,000,000,000)
+abbrev pub decodeOf : ℕ → ℤ → Decoded
+decodeOf operation argument =
+    cond (eqb operation 4) (fits (λ n. O.Register Read) (withinOf argument 0 0))
+    (cond (eqb operation 5) (fits (λ n. O.Register (Write n)) (withinOf argument 0 1000000000)) Unfit)
+
+abbrev pub stepOf : Register → RegisterOperation → Stepped
+stepOf register Read = record { state = S.Register register; outcome = Value (register .value) }
+stepOf register (Write n) = record { state = holding n; outcome = Ok }
+
+-- the outcomes that an operation allows, by a and b: a value from 0 to 1,000,000,000
+abbrev pub recallOf : RegisterOperation → ℕ → ℤ → Recalled
+recallOf Read a b = cond (eqb a 2) (gives Value (withinOf b 0 1000000000)) Unshaped
+recallOf (Write n) a b = cond (eqb a 1) (plainOf Ok b) Unshaped
+
+-- the row of each class of answer: read, write
+abbrev pub classOf : RegisterOperation → Outcome → Class
+classOf Read (Value v) = Row 0
+classOf Read Ok = None
+classOf Read Fail = None
+classOf (Write n) Ok = Row 1
+classOf (Write n) Fail = None
+classOf (Write n) (Value v) = None
+
+abbrev pub table : List (List Rule)
+table =
+    (Pass ∷ Conflict ∷ []) ∷
+    (Conflict ∷ Conflict ∷ []) ∷ []

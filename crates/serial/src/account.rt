@@ -1,0 +1,166 @@
+ghost use mathlib.Core.Path.{_≡_};
+ghost use Rattle.serial.specs.Account.{openedOf, decodeOf, stepOf, recallOf, classOf, table};
+ghost use Rattle.serial.specs.Serial.{entry, Room};
+use crate::Class;
+use crate::Decoded;
+use crate::Opening;
+use crate::Operation;
+use crate::Outcome;
+use crate::Recalled;
+use crate::Rule;
+use crate::State;
+use crate::Stepped;
+use crate::range::Ranged;
+use crate::range::plain;
+use crate::range::within;
+
+pub struct Account {
+    pub balance: u32,
+}
+
+pub enum AccountOperation {
+    Balance,
+    Deposit(u32),
+    Withdraw(u32),
+}
+
+impl Account {
+    pub const OPENING_LEAST: u32 = 0;
+
+    pub const OPENING_MOST: u32 = 1_000_000_000;
+
+    pub const AMOUNT_LEAST: u32 = 1;
+
+    pub const AMOUNT_MOST: u32 = 1_000_000;
+
+    pub const BALANCE_LEAST: u32 = 0;
+    // The largest opening and 1,024 deposits of the largest size.
+    pub const BALANCE_MOST: u32 = 2_024_000_000;
+
+    // Rows and columns: balance, deposit, withdraw OK, withdraw FAIL.
+    pub const TABLE: [[Rule; 4]; 4] = [
+        [Rule::Pass, Rule::Conflict, Rule::Conflict, Rule::Pass],
+        [Rule::Conflict, Rule::Pass, Rule::Pass, Rule::Conflict],
+        [Rule::Conflict, Rule::Pass, Rule::Conflict, Rule::Pass],
+        [Rule::Pass, Rule::Conflict, Rule::Pass, Rule::Pass],
+    ];
+
+    pub fn opened(opening: i64) -> Opening
+        ensures { λ r. ⌜ r ≡ openedOf opening ⌝ }
+    {
+        match within(opening, Account::OPENING_LEAST, Account::OPENING_MOST) {
+            Ranged::In(balance) => Opening::At(State::Account(Account { balance })),
+            Ranged::Out => Opening::Refused,
+        }
+    }
+
+    pub fn decode(operation: u32, argument: i64) -> Decoded
+        ensures { λ r. ⌜ r ≡ decodeOf operation argument ⌝ }
+    {
+        match operation {
+            1 => match within(argument, 0, 0) {
+                Ranged::In(_) => Decoded::Fit(Operation::Account(AccountOperation::Balance)),
+                Ranged::Out => Decoded::Unfit,
+            },
+            2 => match within(argument, Account::AMOUNT_LEAST, Account::AMOUNT_MOST) {
+                Ranged::In(n) => Decoded::Fit(Operation::Account(AccountOperation::Deposit(n))),
+                Ranged::Out => Decoded::Unfit,
+            },
+            3 => match within(argument, Account::AMOUNT_LEAST, Account::AMOUNT_MOST) {
+                Ranged::In(n) => Decoded::Fit(Operation::Account(AccountOperation::Withdraw(n))),
+                Ranged::Out => Decoded::Unfit,
+            },
+            _ => Decoded::Unfit,
+        }
+    }
+
+    pub fn step(self, operation: AccountOperation) -> Stepped
+        requires { ⌜ Room (State.Account self) (Operation.Account operation) ⌝ }
+        ensures { λ r. ⌜ r ≡ stepOf self operation ⌝ }
+    {
+        let balance = self.balance;
+        match operation {
+            AccountOperation::Balance => Stepped {
+                state: State::Account(self),
+                outcome: Outcome::Value(balance),
+            },
+            AccountOperation::Deposit(n) => Stepped {
+                state: State::Account(Account {
+                    balance: balance + n,
+                }),
+                outcome: Outcome::Ok,
+            },
+            AccountOperation::Withdraw(n) => {
+                if n <= balance {
+                    Stepped {
+                        state: State::Account(Account {
+                            balance: balance - n,
+                        }),
+                        outcome: Outcome::Ok,
+                    }
+                } else {
+                    Stepped {
+                        state: State::Account(self),
+                        outcome: Outcome::Fail,
+                    }
+                }
+            }
+        }
+    }
+
+    pub fn recall(operation: AccountOperation, a: u32, b: i64) -> Recalled
+        ensures { λ r. ⌜ r ≡ recallOf operation a b ⌝ }
+    {
+        match operation {
+            AccountOperation::Balance => match a {
+                2 => match within(b, Account::BALANCE_LEAST, Account::BALANCE_MOST) {
+                    Ranged::In(v) => Recalled::Given(Outcome::Value(v)),
+                    Ranged::Out => Recalled::Unshaped,
+                },
+                _ => Recalled::Unshaped,
+            },
+            AccountOperation::Deposit(_) => match a {
+                1 => plain(Outcome::Ok, b),
+                _ => Recalled::Unshaped,
+            },
+            AccountOperation::Withdraw(_) => match a {
+                1 => plain(Outcome::Ok, b),
+                0 => plain(Outcome::Fail, b),
+                _ => Recalled::Unshaped,
+            },
+        }
+    }
+
+    pub fn class_of(operation: AccountOperation, outcome: Outcome) -> Class
+        ensures { λ r. ⌜ r ≡ classOf operation outcome ⌝ }
+    {
+        match operation {
+            AccountOperation::Balance => match outcome {
+                Outcome::Value(_) => Class::Row(0),
+                Outcome::Ok => Class::None,
+                Outcome::Fail => Class::None,
+            },
+            AccountOperation::Deposit(_) => match outcome {
+                Outcome::Ok => Class::Row(1),
+                Outcome::Fail => Class::None,
+                Outcome::Value(_) => Class::None,
+            },
+            AccountOperation::Withdraw(_) => match outcome {
+                Outcome::Ok => Class::Row(2),
+                Outcome::Fail => Class::Row(3),
+                Outcome::Value(_) => Class::None,
+            },
+        }
+    }
+
+    pub fn rule_of(asking: usize, held: usize) -> Rule
+        ensures { λ r. ⌜ r ≡ entry table asking held ⌝ }
+    {
+        if asking < 4 {
+            if held < 4 {
+                return Account::TABLE[asking][held];
+            }
+        }
+        Rule::Conflict
+    }
+}

@@ -1,0 +1,197 @@
+// The serial objects of document 01: what each kind takes, what an operation does to a state and answers, and which answers conflict.
+// A kind's own part is in its own file; here the kinds are told apart.
+pub mod account;
+pub mod range;
+pub mod register;
+
+ghost use mathlib.Core.Path.{_≡_};
+ghost use Rattle.serial.specs.Serial.{kindOf, openedOf, decodeOf, stepOf, Room, numbersOf, recallOf, classOf, tableOf, entry, conflictOf};
+use account::Account;
+use account::AccountOperation;
+use register::Register;
+use register::RegisterOperation;
+
+pub enum Kind {
+    Account,
+    Register,
+    Unknown,
+}
+
+pub enum Operation {
+    Account(AccountOperation),
+    Register(RegisterOperation),
+}
+
+pub enum State {
+    Account(Account),
+    Register(Register),
+}
+
+pub enum Outcome {
+    Ok,
+    Fail,
+    Value(u32),
+}
+
+// An operation with its outcome.
+pub struct Answered {
+    pub operation: Operation,
+    pub outcome: Outcome,
+}
+
+// The state that an object opens with.
+pub enum Opening {
+    At(State),
+    Refused,
+}
+
+// An operation that fits its kind, or code 7.
+pub enum Decoded {
+    Fit(Operation),
+    Unfit,
+}
+
+pub struct Stepped {
+    pub state: State,
+    pub outcome: Outcome,
+}
+
+// The outcome that a and b stand for, where the operation allows it.
+pub enum Recalled {
+    Given(Outcome),
+    Unshaped,
+}
+
+// Document 01's a and b of an outcome.
+pub struct Numbers {
+    pub a: u32,
+    pub b: i64,
+}
+
+// The row, and column, of an answer in the table of its kind.
+pub enum Class {
+    Row(usize),
+    None,
+}
+
+// An entry of a kind's table.
+pub enum Rule {
+    Pass,
+    Conflict,
+}
+
+pub fn kind_of(letter: u8) -> Kind
+    ensures { λ r. ⌜ r ≡ kindOf letter ⌝ }
+{
+    match letter {
+        b'A' => Kind::Account,
+        b'R' => Kind::Register,
+        _ => Kind::Unknown,
+    }
+}
+
+pub fn opened(kind: Kind, opening: i64) -> Opening
+    ensures { λ r. ⌜ r ≡ openedOf kind opening ⌝ }
+{
+    match kind {
+        Kind::Account => Account::opened(opening),
+        Kind::Register => Register::opened(opening),
+        Kind::Unknown => Opening::Refused,
+    }
+}
+
+pub fn decode(kind: Kind, operation: u32, argument: i64) -> Decoded
+    ensures { λ r. ⌜ r ≡ decodeOf kind operation argument ⌝ }
+{
+    match kind {
+        Kind::Account => Account::decode(operation, argument),
+        Kind::Register => Register::decode(operation, argument),
+        Kind::Unknown => Decoded::Unfit,
+    }
+}
+
+// An operation of another kind changes nothing.
+pub fn step(state: State, operation: Operation) -> Stepped
+    requires { ⌜ Room state operation ⌝ }
+    ensures { λ r. ⌜ r ≡ stepOf state operation ⌝ }
+{
+    match state {
+        State::Account(account) => match operation {
+            Operation::Account(o) => account.step(o),
+            Operation::Register(_) => Stepped {
+                state,
+                outcome: Outcome::Fail,
+            },
+        },
+        State::Register(register) => match operation {
+            Operation::Register(o) => register.step(o),
+            Operation::Account(_) => Stepped {
+                state,
+                outcome: Outcome::Fail,
+            },
+        },
+    }
+}
+
+pub fn numbers_of(outcome: Outcome) -> Numbers
+    ensures { λ r. ⌜ r ≡ numbersOf outcome ⌝ }
+{
+    match outcome {
+        Outcome::Ok => Numbers { a: 1, b: 0 },
+        Outcome::Fail => Numbers { a: 0, b: 0 },
+        Outcome::Value(v) => Numbers { a: 2, b: v as i64 },
+    }
+}
+
+pub fn recall(operation: Operation, a: u32, b: i64) -> Recalled
+    ensures { λ r. ⌜ r ≡ recallOf operation a b ⌝ }
+{
+    match operation {
+        Operation::Account(o) => Account::recall(o, a, b),
+        Operation::Register(o) => Register::recall(o, a, b),
+    }
+}
+
+fn class_of(kind: Kind, p: Answered) -> Class
+    ensures { λ r. ⌜ r ≡ classOf kind (p .operation) (p .outcome) ⌝ }
+{
+    let operation = p.operation;
+    let outcome = p.outcome;
+    match kind {
+        Kind::Account => match operation {
+            Operation::Account(o) => Account::class_of(o, outcome),
+            Operation::Register(_) => Class::None,
+        },
+        Kind::Register => match operation {
+            Operation::Register(o) => Register::class_of(o, outcome),
+            Operation::Account(_) => Class::None,
+        },
+        Kind::Unknown => Class::None,
+    }
+}
+
+fn rule_of(kind: Kind, asking: usize, held: usize) -> Rule
+    ensures { λ r. ⌜ r ≡ entry (tableOf kind) asking held ⌝ }
+{
+    match kind {
+        Kind::Account => Account::rule_of(asking, held),
+        Kind::Register => Register::rule_of(asking, held),
+        Kind::Unknown => Rule::Conflict,
+    }
+}
+
+// Whether two answers on an object of the kind conflict. What is no answer of the kind conflicts with everything.
+pub fn conflicts(kind: Kind, p: Answered, q: Answered) -> bool
+    ensures { λ r. ⌜ r ≡ conflictOf kind p q ⌝ }
+{
+    let Class::Row(a) = class_of(kind, p) else {
+        return true;
+    };
+    let Class::Row(b) = class_of(kind, q) else {
+        return true;
+    };
+    match rule_of(kind, a, b) {
+        Rule::Pass => false,
+        Rule::Conflict => true,
+    }
+}

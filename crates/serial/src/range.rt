@@ -1,0 +1,32 @@
+ghost use mathlib.Core.Path.{_≡_};
+use crate::Outcome;
+use crate::Recalled;
+ghost use Rattle.serial.specs.Range.{withinOf, plainOf};
+
+pub enum Ranged {
+    In(u32),
+    Out,
+}
+
+// x as a u32, where it is from low to high. The only place that looks at a sign.
+pub fn within(x: i64, low: u32, high: u32) -> Ranged
+    ensures { λ r. ⌜ r ≡ withinOf x low high ⌝ }
+{
+    if x < (low as i64) {
+        return Ranged::Out;
+    }
+    if (high as i64) < x {
+        return Ranged::Out;
+    }
+    Ranged::In(x as u32)
+}
+
+// An outcome that has no value: b is 0.
+pub fn plain(outcome: Outcome, b: i64) -> Recalled
+    ensures { λ r. ⌜ r ≡ plainOf outcome b ⌝ }
+{
+    match within(b, 0, 0) {
+        Ranged::In(_) => Recalled::Given(outcome),
+        Ranged::Out => Recalled::Unshaped,
+    }
+}

@@ -1,0 +1,122 @@
+ghost use mathlib.Core.Path.{_≡_};
+ghost use Rattle.serial.specs.Register.{openedOf, decodeOf, stepOf, recallOf, classOf, table};
+ghost use Rattle.serial.specs.Serial.{entry};
+use crate::Class;
+use crate::Decoded;
+use crate::Opening;
+use crate::Operation;
+use crate::Outcome;
+use crate::Recalled;
+use crate::Rule;
+use crate::State;
+use crate::Stepped;
+use crate::range::Ranged;
+use crate::range::plain;
+use crate::range::within;
+
+pub struct Register {
+    pub value: u32,
+}
+
+pub enum RegisterOperation {
+    Read,
+    Write(u32),
+}
+
+impl Register {
+    pub const VALUE_LEAST: u32 = 0;
+
+    pub const VALUE_MOST: u32 = 1_000_000_000;
+
+    // Rows and columns: read, write.
+    pub const TABLE: [[Rule; 2]; 2] = [
+        [Rule::Pass, Rule::Conflict],
+        [Rule::Conflict, Rule::Conflict],
+    ];
+
+    pub fn opened(opening: i64) -> Opening
+        ensures { λ r. ⌜ r ≡ openedOf opening ⌝ }
+    {
+        match within(opening, Register::VALUE_LEAST, Register::VALUE_MOST) {
+            Ranged::In(value) => Opening::At(State::Register(Register { value })),
+            Ranged::Out => Opening::Refused,
+        }
+    }
+
+    pub fn decode(operation: u32, argument: i64) -> Decoded
+        ensures { λ r. ⌜ r ≡ decodeOf operation argument ⌝ }
+    {
+        match operation {
+            4 => match within(argument, 0, 0) {
+                Ranged::In(_) => Decoded::Fit(Operation::Register(RegisterOperation::Read)),
+                Ranged::Out => Decoded::Unfit,
+            },
+            5 => match within(argument, Register::VALUE_LEAST, Register::VALUE_MOST) {
+                Ranged::In(n) => Decoded::Fit(Operation::Register(RegisterOperation::Write(n))),
+                Ranged::Out => Decoded::Unfit,
+            },
+            _ => Decoded::Unfit,
+        }
+    }
+
+    pub fn step(self, operation: RegisterOperation) -> Stepped
+        ensures { λ r. ⌜ r ≡ stepOf self operation ⌝ }
+    {
+        match operation {
+            RegisterOperation::Read => Stepped {
+                state: State::Register(self),
+                outcome: Outcome::Value(self.value),
+            },
+            RegisterOperation::Write(value) => Stepped {
+                state: State::Register(Register { value }),
+                outcome: Outcome::Ok,
+            },
+        }
+    }
+
+    pub fn recall(operation: RegisterOperation, a: u32, b: i64) -> Recalled
+        ensures { λ r. ⌜ r ≡ recallOf operation a b ⌝ }
+    {
+        match operation {
+            RegisterOperation::Read => match a {
+                2 => match within(b, Register::VALUE_LEAST, Register::VALUE_MOST) {
+                    Ranged::In(v) => Recalled::Given(Outcome::Value(v)),
+                    Ranged::Out => Recalled::Unshaped,
+                },
+                _ => Recalled::Unshaped,
+            },
+            RegisterOperation::Write(_) => match a {
+                1 => plain(Outcome::Ok, b),
+                _ => Recalled::Unshaped,
+            },
+        }
+    }
+
+    pub fn class_of(operation: RegisterOperation, outcome: Outcome) -> Class
+        ensures { λ r. ⌜ r ≡ classOf operation outcome ⌝ }
+    {
+        match operation {
+            RegisterOperation::Read => match outcome {
+                Outcome::Value(_) => Class::Row(0),
+                Outcome::Ok => Class::None,
+                Outcome::Fail => Class::None,
+            },
+            RegisterOperation::Write(_) => match outcome {
+                Outcome::Ok => Class::Row(1),
+                Outcome::Fail => Class::None,
+                Outcome::Value(_) => Class::None,
+            },
+        }
+    }
+
+    pub fn rule_of(asking: usize, held: usize) -> Rule
+        ensures { λ r. ⌜ r ≡ entry table asking held ⌝ }
+    {
+        if asking < 2 {
+            if held < 2 {
+                return Register::TABLE[asking][held];
+            }
+        }
+        Rule::Conflict
+    }
+}
