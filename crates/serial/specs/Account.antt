@@ -23,7 +23,7 @@ use Rattle.serial.specs.declared.Class.{Class}
 use Rattle.serial.specs.declared.Class.the-variants.{Row, None}
 use Rattle.serial.specs.declared.Rule.{Rule}
 use Rattle.serial.specs.declared.Rule.the-variants.{Pass, Conflict}
-use Rattle.serial.specs.Range.{withinOf, opens, fits, gives, plainOf}
+use Rattle.serial.specs.Range.{withinOf, opens, fits, withValue, withoutValue}
 
 -- the account with this balance
 abbrev pub holding : ℕ → State
@@ -50,9 +50,9 @@ stepOf account (Withdraw n) =
 
 -- the outcomes that an operation allows, by a and b: a balance from 0 to 2,024,000,000, the largest opening and 1,024 deposits of the largest size
 abbrev pub recallOf : AccountOperation → ℕ → ℤ → Recalled
-recallOf Balance a b = cond (eqb a 2) (gives Value (withinOf b 0 2024000000)) Unshaped
-recallOf (Deposit n) a b = cond (eqb a 1) (plainOf Ok b) Unshaped
-recallOf (Withdraw n) a b = cond (eqb a 1) (plainOf Ok b) (cond (eqb a 0) (plainOf Fail b) Unshaped)
+recallOf Balance a b = cond (eqb a 2) (withValue b 0 2024000000) Unshaped
+recallOf (Deposit n) a b = cond (eqb a 1) (withoutValue Ok b) Unshaped
+recallOf (Withdraw n) a b = cond (eqb a 1) (withoutValue Ok b) (cond (eqb a 0) (withoutValue Fail b) Unshaped)
 
 -- the row of each class of answer: balance, deposit, withdraw OK, withdraw FAIL
 abbrev pub classOf : AccountOperation → Outcome → Class

@@ -8,6 +8,7 @@ use Rattle.serial.specs.declared.range.Ranged.the-variants.{In, Out}
 use Rattle.serial.specs.declared.State.{State}
 use Rattle.serial.specs.declared.Operation.{Operation}
 use Rattle.serial.specs.declared.Outcome.{Outcome}
+use Rattle.serial.specs.declared.Outcome.the-variants.{Value}
 use Rattle.serial.specs.declared.Recalled.{Recalled}
 use Rattle.serial.specs.declared.Recalled.the-variants.{Given, Unshaped}
 use Rattle.serial.specs.declared.Opening.{Opening}
@@ -33,6 +34,9 @@ abbrev pub gives : (ℕ → Outcome) → Ranged → Recalled
 gives f (In n) = Given (f n)
 gives f Out = Unshaped
 
--- an outcome that has no value: b is 0
-abbrev pub plainOf : Outcome → ℤ → Recalled
-plainOf outcome b = gives (λ n. outcome) (withinOf b 0 0)
+-- the outcome with this b: a value from low to high, or one that has no value, of which b is 0
+abbrev pub withValue : ℤ → ℕ → ℕ → Recalled
+withValue b low high = gives Value (withinOf b low high)
+
+abbrev pub withoutValue : Outcome → ℤ → Recalled
+withoutValue outcome b = gives (λ n. outcome) (withinOf b 0 0)

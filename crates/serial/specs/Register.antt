@@ -23,7 +23,7 @@ use Rattle.serial.specs.declared.Class.{Class}
 use Rattle.serial.specs.declared.Class.the-variants.{Row, None}
 use Rattle.serial.specs.declared.Rule.{Rule}
 use Rattle.serial.specs.declared.Rule.the-variants.{Pass, Conflict}
-use Rattle.serial.specs.Range.{withinOf, opens, fits, gives, plainOf}
+use Rattle.serial.specs.Range.{withinOf, opens, fits, withValue, withoutValue}
 
 -- the register with this value
 abbrev pub holding : ℕ → State
@@ -45,8 +45,8 @@ stepOf register (Write n) = record { state = holding n; outcome = Ok }
 
 -- the outcomes that an operation allows, by a and b: a value from 0 to 1,000,000,000
 abbrev pub recallOf : RegisterOperation → ℕ → ℤ → Recalled
-recallOf Read a b = cond (eqb a 2) (gives Value (withinOf b 0 1000000000)) Unshaped
-recallOf (Write n) a b = cond (eqb a 1) (plainOf Ok b) Unshaped
+recallOf Read a b = cond (eqb a 2) (withValue b 0 1000000000) Unshaped
+recallOf (Write n) a b = cond (eqb a 1) (withoutValue Ok b) Unshaped
 
 -- the row of each class of answer: read, write
 abbrev pub classOf : RegisterOperation → Outcome → Class

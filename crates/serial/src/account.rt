@@ -11,8 +11,9 @@ use crate::Rule;
 use crate::State;
 use crate::Stepped;
 use crate::range::Ranged;
-use crate::range::plain;
+use crate::range::with_value;
 use crate::range::within;
+use crate::range::without_value;
 
 pub struct Account {
     pub balance: u32,
@@ -113,19 +114,16 @@ impl Account {
     {
         match operation {
             AccountOperation::Balance => match a {
-                2 => match within(b, Account::BALANCE_LEAST, Account::BALANCE_MOST) {
-                    Ranged::In(v) => Recalled::Given(Outcome::Value(v)),
-                    Ranged::Out => Recalled::Unshaped,
-                },
+                2 => with_value(b, Account::BALANCE_LEAST, Account::BALANCE_MOST),
                 _ => Recalled::Unshaped,
             },
             AccountOperation::Deposit(_) => match a {
-                1 => plain(Outcome::Ok, b),
+                1 => without_value(Outcome::Ok, b),
                 _ => Recalled::Unshaped,
             },
             AccountOperation::Withdraw(_) => match a {
-                1 => plain(Outcome::Ok, b),
-                0 => plain(Outcome::Fail, b),
+                1 => without_value(Outcome::Ok, b),
+                0 => without_value(Outcome::Fail, b),
                 _ => Recalled::Unshaped,
             },
         }

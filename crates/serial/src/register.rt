@@ -11,8 +11,9 @@ use crate::Rule;
 use crate::State;
 use crate::Stepped;
 use crate::range::Ranged;
-use crate::range::plain;
+use crate::range::with_value;
 use crate::range::within;
+use crate::range::without_value;
 
 pub struct Register {
     pub value: u32,
@@ -79,14 +80,11 @@ impl Register {
     {
         match operation {
             RegisterOperation::Read => match a {
-                2 => match within(b, Register::VALUE_LEAST, Register::VALUE_MOST) {
-                    Ranged::In(v) => Recalled::Given(Outcome::Value(v)),
-                    Ranged::Out => Recalled::Unshaped,
-                },
+                2 => with_value(b, Register::VALUE_LEAST, Register::VALUE_MOST),
                 _ => Recalled::Unshaped,
             },
             RegisterOperation::Write(_) => match a {
-                1 => plain(Outcome::Ok, b),
+                1 => without_value(Outcome::Ok, b),
                 _ => Recalled::Unshaped,
             },
         }

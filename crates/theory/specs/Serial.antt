@@ -46,5 +46,5 @@ module _ (S : Serial) where
   Commute p q = (s : S .State) → S .Has s → Right s p → Right s q → Swaps p q s
 
   -- states that nothing tells apart are the same
-  abbrev pub Plain : Type 0
-  Plain = (s t : S .State) → S .Has s → S .Has t → Alike s t → s ≡ t
+  abbrev pub AlikeIsSame : Type 0
+  AlikeIsSame = (s t : S .State) → S .Has s → S .Has t → Alike s t → s ≡ t

@@ -1,8 +1,8 @@
 use Rattle.serial.proofs.Within.{told}
 use Rattle.serial.specs.Range.{gives}
 use borrow.Author.Needs.{needs}
-use Rattle.serial.proofs.range.plain.Statement.{statement}
-use Rattle.serial.proofs.range.plain.Tie as tie
+use Rattle.serial.proofs.range.without_value.Statement.{statement}
+use Rattle.serial.proofs.range.without_value.Tie as tie
 
 within-requires : tie.Need-within-requires
 within-requires c κs = search needs
@@ -19,5 +19,5 @@ returns c = told (gives (λ n. c .before .before .before .args .outcome)) 0 0 (c
 returns-2 : tie.Need-returns-2
 returns-2 c = told (gives (λ n. c .before .before .before .args .outcome)) 0 0 (c .enum-told2 .given .1) (c .before .before .within .ensures) (c .before .before .before .fits .b)
 
-pub plain-spec : {M : Type 1} → statement M
-plain-spec = tie.close (tie.spec within-requires enum-told enum-told-2 returns returns-2)
+pub without-value-spec : {M : Type 1} → statement M
+without-value-spec = tie.close (tie.spec within-requires enum-told enum-told-2 returns returns-2)

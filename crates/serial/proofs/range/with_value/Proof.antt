@@ -1,0 +1,24 @@
+use Rattle.serial.proofs.Within.{told}
+use Rattle.serial.specs.Range.{gives}
+use Rattle.serial.specs.declared.Outcome.the-variants.{Value}
+use borrow.Author.Needs.{needs}
+use Rattle.serial.proofs.range.with_value.Statement.{statement}
+use Rattle.serial.proofs.range.with_value.Tie as tie
+
+within-requires : tie.Need-within-requires
+within-requires c κs = search needs
+
+enum-known-v : tie.Need-enum-known-v
+enum-known-v c = search needs
+
+enum-told : tie.Need-enum-told
+enum-told c = search needs
+
+returns : tie.Need-returns
+returns c = told (gives Value) (c .before .before .before .before .args .low) (c .before .before .before .before .args .high) (c .before .v .given .1) (c .before .before .before .within .ensures) (c .before .before .before .before .fits .b)
+
+returns-2 : tie.Need-returns-2
+returns-2 c = told (gives Value) (c .before .before .before .args .low) (c .before .before .before .args .high) (c .enum-told .given .1) (c .before .before .within .ensures) (c .before .before .before .fits .b)
+
+pub with-value-spec : {M : Type 1} → statement M
+with-value-spec = tie.close (tie.spec within-requires enum-known-v enum-told returns returns-2)
