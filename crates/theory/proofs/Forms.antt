@@ -28,3 +28,12 @@ module _ (S : Serial) {N : Type 0} (make : N → S .State) where
           p-second = rw eq (f .right (g .end n) (all .1));
           ends = same-alike S _ _ (rw (ep, eq) (g .ends (f .end n) (all .0) ∙ ap make (all .2) ∙ sym (f .ends (g .end n) (all .1))));
         }
+
+-- two operations that change nothing swap
+pub idle-swaps : (S : Serial) (p q : Op S) (s : S .State) → after S s p ≡ s → after S s q ≡ s → Right S s p → Right S s q → Swaps S p q s
+idle-swaps S p q s ep eq hp hq =
+    record {
+      q-second = rw ep hq;
+      p-second = rw eq hp;
+      ends = same-alike S _ _ (rw (ep, eq) (sym ep));
+    }

@@ -21,7 +21,7 @@ returns c = inside table 2 refl (c .before .before .before .args .asking) (c .be
 
 returns-2 : tie.Need-returns-2
 unfolding allBelow
-returns-2 c = past-row table 2 refl (c .before .before .args .asking) (c .before .before .args .held) (c .before .if1 .taken) (c .if2 .left)
+returns-2 c = past-row table 2 refl (c .before .before .args .asking) (c .before .before .args .held) (c .if2 .left)
 
 returns-3 : tie.Need-returns-3
 unfolding allBelow
