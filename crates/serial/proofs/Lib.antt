@@ -1,3 +1,4 @@
 pub mod Within
 pub mod Table
 pub mod Claims
+pub mod Sole

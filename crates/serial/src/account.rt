@@ -1,8 +1,10 @@
+// The account: its limits, its opening state, its operations and its conflict table.
 ghost use mathlib.Core.Path.{_≡_};
 ghost use Rattle.serial.specs.Account.{openedOf, decodeOf, stepOf, recallOf, classOf, table};
 ghost use Rattle.serial.specs.Serial.{entry, Room};
 use crate::Class;
 use crate::Decoded;
+use crate::Numbers;
 use crate::Opening;
 use crate::Operation;
 use crate::Outcome;
@@ -30,16 +32,29 @@ impl Account {
 
     pub const OPENING_MOST: u32 = 1_000_000_000;
 
+    // Operations.
+    pub const BALANCE: u32 = 1;
+
+    pub const DEPOSIT: u32 = 2;
+
+    pub const WITHDRAW: u32 = 3;
+
+    // Arguments.
+    pub const NO_ARGUMENT: u32 = 0;
+
     pub const AMOUNT_LEAST: u32 = 1;
 
     pub const AMOUNT_MOST: u32 = 1_000_000;
 
+    // Answers: up to the largest opening and 1,024 deposits of the largest size.
     pub const BALANCE_LEAST: u32 = 0;
-    // The largest opening and 1,024 deposits of the largest size.
+
     pub const BALANCE_MOST: u32 = 2_024_000_000;
 
+    pub const CLASSES: usize = 4;
+
     // Rows and columns: balance, deposit, withdraw OK, withdraw FAIL.
-    pub const TABLE: [[Rule; 4]; 4] = [
+    pub const TABLE: [[Rule; Account::CLASSES]; Account::CLASSES] = [
         [Rule::Pass, Rule::Conflict, Rule::Conflict, Rule::Pass],
         [Rule::Conflict, Rule::Pass, Rule::Pass, Rule::Conflict],
         [Rule::Conflict, Rule::Pass, Rule::Conflict, Rule::Pass],
@@ -59,15 +74,23 @@ impl Account {
         ensures { λ r. ⌜ r ≡ decodeOf operation argument ⌝ }
     {
         match operation {
-            1 => match within(argument, 0, 0) {
+            Account::BALANCE => match within(argument, Account::NO_ARGUMENT, Account::NO_ARGUMENT) {
                 Ranged::In(_) => Decoded::Fit(Operation::Account(AccountOperation::Balance)),
                 Ranged::Out => Decoded::Unfit,
             },
-            2 => match within(argument, Account::AMOUNT_LEAST, Account::AMOUNT_MOST) {
+            Account::DEPOSIT => match within(
+                argument,
+                Account::AMOUNT_LEAST,
+                Account::AMOUNT_MOST,
+            ) {
                 Ranged::In(n) => Decoded::Fit(Operation::Account(AccountOperation::Deposit(n))),
                 Ranged::Out => Decoded::Unfit,
             },
-            3 => match within(argument, Account::AMOUNT_LEAST, Account::AMOUNT_MOST) {
+            Account::WITHDRAW => match within(
+                argument,
+                Account::AMOUNT_LEAST,
+                Account::AMOUNT_MOST,
+            ) {
                 Ranged::In(n) => Decoded::Fit(Operation::Account(AccountOperation::Withdraw(n))),
                 Ranged::Out => Decoded::Unfit,
             },
@@ -114,16 +137,16 @@ impl Account {
     {
         match operation {
             AccountOperation::Balance => match a {
-                2 => with_value(b, Account::BALANCE_LEAST, Account::BALANCE_MOST),
+                Numbers::VALUE => with_value(b, Account::BALANCE_LEAST, Account::BALANCE_MOST),
                 _ => Recalled::Unshaped,
             },
             AccountOperation::Deposit(_) => match a {
-                1 => without_value(Outcome::Ok, b),
+                Numbers::OK => without_value(Outcome::Ok, b),
                 _ => Recalled::Unshaped,
             },
             AccountOperation::Withdraw(_) => match a {
-                1 => without_value(Outcome::Ok, b),
-                0 => without_value(Outcome::Fail, b),
+                Numbers::OK => without_value(Outcome::Ok, b),
+                Numbers::FAIL => without_value(Outcome::Fail, b),
                 _ => Recalled::Unshaped,
             },
         }
@@ -154,8 +177,8 @@ impl Account {
     pub fn rule_of(asking: usize, held: usize) -> Rule
         ensures { λ r. ⌜ r ≡ entry table asking held ⌝ }
     {
-        if asking < 4 {
-            if held < 4 {
+        if asking < Account::CLASSES {
+            if held < Account::CLASSES {
                 return Account::TABLE[asking][held];
             }
         }

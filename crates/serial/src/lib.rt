@@ -68,6 +68,17 @@ pub struct Numbers {
     pub b: i64,
 }
 
+impl Numbers {
+    // The values of a.
+    pub const FAIL: u32 = 0;
+
+    pub const OK: u32 = 1;
+
+    pub const VALUE: u32 = 2;
+    // Of b, where there is no value.
+    pub const NONE: i64 = 0;
+}
+
 // The row, and column, of an answer in the table of its kind.
 pub enum Class {
     Row(usize),
@@ -137,9 +148,18 @@ pub fn numbers_of(outcome: Outcome) -> Numbers
     ensures { λ r. ⌜ r ≡ numbersOf outcome ⌝ }
 {
     match outcome {
-        Outcome::Ok => Numbers { a: 1, b: 0 },
-        Outcome::Fail => Numbers { a: 0, b: 0 },
-        Outcome::Value(v) => Numbers { a: 2, b: v as i64 },
+        Outcome::Ok => Numbers {
+            a: Numbers::OK,
+            b: Numbers::NONE,
+        },
+        Outcome::Fail => Numbers {
+            a: Numbers::FAIL,
+            b: Numbers::NONE,
+        },
+        Outcome::Value(v) => Numbers {
+            a: Numbers::VALUE,
+            b: v as i64,
+        },
     }
 }
 

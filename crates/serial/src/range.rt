@@ -1,7 +1,8 @@
+// Numbers from outside, tested against a kind's range.
 ghost use mathlib.Core.Path.{_≡_};
+ghost use Rattle.serial.specs.Range.{withinOf, withValue, withoutValue};
 use crate::Outcome;
 use crate::Recalled;
-ghost use Rattle.serial.specs.Range.{withinOf, withValue, withoutValue};
 
 pub enum Ranged {
     In(u32),

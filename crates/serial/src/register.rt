@@ -1,8 +1,10 @@
+// The register: its limits, its opening state, its operations and its conflict table.
 ghost use mathlib.Core.Path.{_≡_};
 ghost use Rattle.serial.specs.Register.{openedOf, decodeOf, stepOf, recallOf, classOf, table};
 ghost use Rattle.serial.specs.Serial.{entry};
 use crate::Class;
 use crate::Decoded;
+use crate::Numbers;
 use crate::Opening;
 use crate::Operation;
 use crate::Outcome;
@@ -25,12 +27,22 @@ pub enum RegisterOperation {
 }
 
 impl Register {
+    // Operations.
+    pub const READ: u32 = 4;
+
+    pub const WRITE: u32 = 5;
+
+    pub const NO_ARGUMENT: u32 = 0;
+
+    // Openings, what is written and what is read.
     pub const VALUE_LEAST: u32 = 0;
 
     pub const VALUE_MOST: u32 = 1_000_000_000;
 
+    pub const CLASSES: usize = 2;
+
     // Rows and columns: read, write.
-    pub const TABLE: [[Rule; 2]; 2] = [
+    pub const TABLE: [[Rule; Register::CLASSES]; Register::CLASSES] = [
         [Rule::Pass, Rule::Conflict],
         [Rule::Conflict, Rule::Conflict],
     ];
@@ -48,11 +60,11 @@ impl Register {
         ensures { λ r. ⌜ r ≡ decodeOf operation argument ⌝ }
     {
         match operation {
-            4 => match within(argument, 0, 0) {
+            Register::READ => match within(argument, Register::NO_ARGUMENT, Register::NO_ARGUMENT) {
                 Ranged::In(_) => Decoded::Fit(Operation::Register(RegisterOperation::Read)),
                 Ranged::Out => Decoded::Unfit,
             },
-            5 => match within(argument, Register::VALUE_LEAST, Register::VALUE_MOST) {
+            Register::WRITE => match within(argument, Register::VALUE_LEAST, Register::VALUE_MOST) {
                 Ranged::In(n) => Decoded::Fit(Operation::Register(RegisterOperation::Write(n))),
                 Ranged::Out => Decoded::Unfit,
             },
@@ -80,11 +92,11 @@ impl Register {
     {
         match operation {
             RegisterOperation::Read => match a {
-                2 => with_value(b, Register::VALUE_LEAST, Register::VALUE_MOST),
+                Numbers::VALUE => with_value(b, Register::VALUE_LEAST, Register::VALUE_MOST),
                 _ => Recalled::Unshaped,
             },
             RegisterOperation::Write(_) => match a {
-                1 => without_value(Outcome::Ok, b),
+                Numbers::OK => without_value(Outcome::Ok, b),
                 _ => Recalled::Unshaped,
             },
         }
@@ -110,8 +122,8 @@ impl Register {
     pub fn rule_of(asking: usize, held: usize) -> Rule
         ensures { λ r. ⌜ r ≡ entry table asking held ⌝ }
     {
-        if asking < 2 {
-            if held < 2 {
+        if asking < Register::CLASSES {
+            if held < Register::CLASSES {
                 return Register::TABLE[asking][held];
             }
         }

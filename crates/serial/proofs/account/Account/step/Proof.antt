@@ -1,3 +1,4 @@
+use native.Mathlib.Omega.{arith}
 use borrow.Author.Tests.{le-leb, lt-leb}
 use borrow.Author.Needs.{needs}
 use Rattle.serial.proofs.account.Account.step.Statement.{statement}
@@ -22,10 +23,14 @@ returns-2 : tie.Need-returns-2
 returns-2 c = rw (c .before .operation .given .1)
 
 returns-3 : tie.Need-returns-3
-returns-3 c = rw (c .before .before .operation2 .given .1, le-leb _ _ (c .if1 .taken))
+returns-3 c =
+    let w = c .before .before .operation2 .given in
+    rw (w .1, le-leb (w .0 .0) (c .before .before .before .before .args .self .balance) (omega arith))
 
 returns-4 : tie.Need-returns-4
-returns-4 c = rw (c .before .before .operation2 .given .1, lt-leb _ _ (c .if1 .left))
+returns-4 c =
+    let w = c .before .before .operation2 .given in
+    rw (w .1, lt-leb (w .0 .0) (c .before .before .before .before .args .self .balance) (omega arith))
 
 pub step-spec : {M : Type 1} → statement M
 step-spec =

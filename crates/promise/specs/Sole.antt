@@ -1,0 +1,11 @@
+-- A contract that leaves one result. `post` is what a function's `ensures` says: of the arguments, the result, and the arguments at exit.
+use mathlib.Core.Path.{_≡_}
+use mathlib.Core.List.{List}
+use Prim.Native.Nat.{ℕ}
+use borrow.Fn.Kinds.{PK, RK, Dens, resT, endedOf, Out}
+use contract.Lifetimes.{Lfts}
+use denote.Triple.Clauses.{AtExit}
+
+abbrev pub Sole : (n : ℕ) (ps : List (PK n)) (r : RK n) → Out n ps r → Type 0
+Sole n ps r post =
+    (κs : Lfts n) (a : Dens κs ps) (x y : resT r κs .Denot) (s t : AtExit (endedOf n ps r) κs) → post κs a x s → post κs a y t → x ≡ y

@@ -1,0 +1,1 @@
+// What a promise must be: the definition in specs/, its law in proofs/. No code.
