@@ -1,27 +1,20 @@
 -- What is proved of the serial objects, besides each function's own contract.
 use mathlib.Core.Path.{_≡_, refl, sym, ap, _∙_}
 use mathlib.Core.Bool.{true, false, true≢false}
-use mathlib.Core.Logic.{⊎-elim}
-use Prim.Native.Nat.{ℕ, _≤_}
-use native.Mathlib.Omega.{arith}
-use borrow.Author.Tests.{le-leb, lt-leb}
+use Prim.Native.Nat.{ℕ}
+use lib.IntN.{ℤ}
 use Rattle.below.specs.Below.{allBelow}
-use Rattle.below.proofs.Tests.{le-or}
 use Rattle.theory.specs.Serial.{Right, Swaps, Commute, AlikeIsSame}
 use Rattle.theory.proofs.Alike.{alike-answers}
 use Rattle.theory.proofs.Forms.{idle-swaps}
-use Rattle.serial.specs.Serial.{stepOf, numbersOf, recallOf, entry, verdict, tableOf, classOf, conflictOf}
+use Rattle.serial.specs.Serial.{decodeOf, Room, Bounded, entry, verdict, tableOf, classOf, conflictOf}
 use Rattle.serial.specs.Account as AS
 use Rattle.serial.specs.Register as RS
 use Rattle.serial.specs.Object.{StateOf, account, register, objectOf, opOf}
 use Rattle.serial.specs.declared.Kind.{Kind}
 use Rattle.serial.specs.declared.Kind.the-variants.{Account, Register, Unknown}
-use Rattle.serial.specs.declared.account.Account.{Account as AccountState}
-use Rattle.serial.specs.declared.account.AccountOperation.{AccountOperation}
-use Rattle.serial.specs.declared.account.AccountOperation.the-variants.{Balance, Deposit, Withdraw}
-use Rattle.serial.specs.declared.register.Register.{Register as RegisterState}
-use Rattle.serial.specs.declared.register.RegisterOperation.{RegisterOperation}
-use Rattle.serial.specs.declared.register.RegisterOperation.the-variants.{Read, Write}
+use Rattle.serial.specs.declared.account.AccountOperation.the-variants.{Balance}
+use Rattle.serial.specs.declared.register.RegisterOperation.the-variants.{Read}
 use Rattle.serial.specs.declared.State.{State}
 use Rattle.serial.specs.declared.State.the-variants as S
 use Rattle.serial.specs.declared.Operation.{Operation}
@@ -29,8 +22,9 @@ use Rattle.serial.specs.declared.Operation.the-variants as O
 use Rattle.serial.specs.declared.Outcome.{Outcome}
 use Rattle.serial.specs.declared.Outcome.the-variants.{Value}
 use Rattle.serial.specs.declared.Answered.{Answered}
-use Rattle.serial.specs.declared.Recalled.the-variants.{Given}
+use Rattle.serial.specs.declared.Decoded.the-variants.{Fit}
 use Rattle.serial.proofs.Table.{none-conflicts, square, mirrored, verdict-sym}
+use Rattle.serial.proofs.Takes.{Recalls, decoded-takes, takes-room, takes-recalled}
 use Rattle.serial.proofs.account.Passes as A
 use Rattle.serial.proofs.register.Passes as R
 
@@ -74,16 +68,10 @@ pub alike-is-same : (kind : Kind) → AlikeIsSame (objectOf kind)
 alike-is-same kind s t (account {n}) (account {n = m}) alike = ap AS.holding (let e : Value m ≡ Value n = alike-answers (objectOf Account) _ _ (O.Account Balance) alike in cc)
 alike-is-same kind s t (register {n} h) (register {n = m} k) alike = ap RS.holding (let e : Value m ≡ Value n = alike-answers (objectOf Register) _ _ (O.Register Read) alike in cc)
 
--- Form rules: what an operation answers is of a shape that it allows, and is read back from its numbers.
-abbrev pub Recalls : State → Operation → Type 0
-Recalls s o = recallOf o (numbersOf (stepOf s o .outcome) .a) (numbersOf (stepOf s o .outcome) .b) ≡ Given (stepOf s o .outcome)
+-- No sum can wrap: what `decode` lets through has room in every state that a store reaches.
+pub no-sum-wraps : (kind : Kind) (k : ℕ) (x : ℤ) (o : Operation) (s : State) → decodeOf kind k x ≡ Fit o → Bounded s → Room s o
+no-sum-wraps kind k x o s e = takes-room kind o s (decoded-takes kind k x o e)
 
-pub account-recalled : (a : AccountState) (o : AccountOperation) → a .balance ≤ 2024000000 → Recalls (S.Account a) (O.Account o)
-account-recalled a Balance h = rw (le-leb 0 (a .balance) (omega arith), le-leb (a .balance) 2024000000 h)
-account-recalled a (Deposit n) h = refl
-account-recalled a (Withdraw n) h =
-    ⊎-elim (λ l. rw (le-leb n (a .balance) l)) (λ l. rw (lt-leb n (a .balance) l)) (le-or n (a .balance))
-
-pub register-recalled : (v : RegisterState) (o : RegisterOperation) → v .value ≤ 1000000000 → Recalls (S.Register v) (O.Register o)
-register-recalled v Read h = rw (le-leb 0 (v .value) (omega arith), le-leb (v .value) 1000000000 h)
-register-recalled v (Write n) h = refl
+-- Form rules: its answer is of a shape that the operation allows, and its numbers are read back as that answer.
+pub answers-recalled : (kind : Kind) (k : ℕ) (x : ℤ) (o : Operation) (s : State) → decodeOf kind k x ≡ Fit o → StateOf kind s → Bounded s → Recalls s o
+answers-recalled kind k x o s e has = takes-recalled kind o s has (decoded-takes kind k x o e)

@@ -1,5 +1,5 @@
 -- The serial objects over all kinds. Source: document 01, "Objects and numbers", "Calls, answers and their order" and "The conflict table".
-use Prim.Native.Nat.{ℕ, _+_, _<_, _^_}
+use Prim.Native.Nat.{ℕ, _+_, _<_, _≤_, _^_}
 use mathlib.Core.Bool.{Bool, true, false, cond}
 use mathlib.Core.List.{List, []}
 use lib.IntN.{ℤ, pos}
@@ -58,6 +58,11 @@ Room (S.Account account) (O.Account (Deposit n)) = account .balance + n < 2 ^ 32
 Room (S.Account account) (O.Account (Withdraw n)) = Unit {0}
 Room (S.Account account) (O.Register o) = Unit {0}
 Room (S.Register register) o = Unit {0}
+
+-- no balance exceeds the largest opening and 1,024 deposits of the largest size; a register's value is one that can be written
+abbrev pub Bounded : State → Type 0
+Bounded (S.Account account) = account .balance ≤ 2024000000
+Bounded (S.Register register) = register .value ≤ 1000000000
 
 -- a is 1 for OK, 0 for FAIL, 2 for a value; b is the value, else 0
 abbrev pub numbersOf : Outcome → Numbers

@@ -1,7 +1,7 @@
 // The serial objects of document 01: what each kind takes, what an operation does to a state and answers, and which answers conflict.
 // A kind's own part is in its own file; here the kinds are told apart.
 pub mod account;
-pub mod range;
+mod range;
 pub mod register;
 
 ghost use mathlib.Core.Path.{_≡_};

@@ -1,0 +1,79 @@
+-- What `decode` lets through: the operations of the kind with their arguments in range. So no sum wraps, and every answer is one that the form allows.
+use mathlib.Core.Path.{_≡_, refl}
+use mathlib.Core.Bool.{Bool, true, false, cond, _&&_, and-eq-true-iff}
+use mathlib.Core.Logic.{⊎-elim}
+use Prim.Native.Nat.{ℕ, _≤_}
+use native.Mathlib.Omega.{arith}
+use lib.IntN.{ℤ, pos, negsuc}
+use lib.Dec.{leb, eqb}
+use borrow.Author.Tests.{leb-true, le-leb, lt-leb}
+use Rattle.below.proofs.Tests.{bool-or, le-or}
+use Rattle.serial.specs.Range.{withinOf, fits}
+use Rattle.serial.specs.Serial.{decodeOf, stepOf, Room, Bounded, numbersOf, recallOf}
+use Rattle.serial.specs.Object.{StateOf, account, register}
+use Rattle.serial.specs.declared.Kind.{Kind}
+use Rattle.serial.specs.declared.Kind.the-variants.{Account, Register, Unknown}
+use Rattle.serial.specs.declared.account.AccountOperation.the-variants.{Balance, Deposit, Withdraw}
+use Rattle.serial.specs.declared.register.RegisterOperation.the-variants.{Read, Write}
+use Rattle.serial.specs.declared.State.{State}
+use Rattle.serial.specs.declared.State.the-variants as S
+use Rattle.serial.specs.declared.Operation.{Operation}
+use Rattle.serial.specs.declared.Operation.the-variants as O
+use Rattle.serial.specs.declared.Decoded.{Decoded}
+use Rattle.serial.specs.declared.Decoded.the-variants.{Fit, Unfit}
+use Rattle.serial.specs.declared.Recalled.the-variants.{Given}
+
+pub data Takes : Kind → Operation → Type 0 where
+  balance : Takes Account (O.Account Balance)
+  deposit : {n : ℕ} → 1 ≤ n → n ≤ 1000000 → Takes Account (O.Account (Deposit n))
+  withdraw : {n : ℕ} → 1 ≤ n → n ≤ 1000000 → Takes Account (O.Account (Withdraw n))
+  read : Takes Register (O.Register Read)
+  write : {n : ℕ} → n ≤ 1000000000 → Takes Register (O.Register (Write n))
+
+abbrev TakesIf : Kind → Decoded → Type 0
+TakesIf kind (Fit o) = Takes kind o
+TakesIf kind Unfit = Unit {0}
+
+either : (kind : Kind) (b : Bool) (d e : Decoded) → TakesIf kind d → TakesIf kind e → TakesIf kind (cond b d e)
+either kind true d e p q = p
+either kind false d e p q = q
+
+ranged : (kind : Kind) (f : ℕ → Operation) (x : ℤ) (low high : ℕ) → ((n : ℕ) → low ≤ n → n ≤ high → Takes kind (f n)) → TakesIf kind (fits f (withinOf x low high))
+ranged kind f (pos n) low high h =
+    ⊎-elim
+    (λ e. let b = and-eq-true-iff (leb low n) (leb n high) .0 e in rw e (h n (leb-true low n (b .0)) (leb-true n high (b .1))))
+    (λ e. rw e tt) (bool-or (leb low n && leb n high))
+ranged kind f (negsuc n) low high h = tt
+
+takes-if : (kind : Kind) (k : ℕ) (x : ℤ) → TakesIf kind (decodeOf kind k x)
+takes-if Account k x =
+    either Account (eqb k 1) _ _ (ranged Account (λ n. O.Account Balance) x 0 0 (λ n l h. balance))
+    (either Account (eqb k 2) _ _ (ranged Account (λ n. O.Account (Deposit n)) x 1 1000000 (λ n l h. deposit l h))
+    (either Account (eqb k 3) _ _ (ranged Account (λ n. O.Account (Withdraw n)) x 1 1000000 (λ n l h. withdraw l h)) tt))
+takes-if Register k x =
+    either Register (eqb k 4) _ _ (ranged Register (λ n. O.Register Read) x 0 0 (λ n l h. read))
+    (either Register (eqb k 5) _ _ (ranged Register (λ n. O.Register (Write n)) x 0 1000000000 (λ n l h. write h)) tt)
+takes-if Unknown k x = tt
+
+pub decoded-takes : (kind : Kind) (k : ℕ) (x : ℤ) (o : Operation) → decodeOf kind k x ≡ Fit o → Takes kind o
+decoded-takes kind k x o e = rw e at (takes-if kind k x)
+
+-- a deposit that is taken fits, whatever the other states
+pub takes-room : (kind : Kind) (o : Operation) (s : State) → Takes kind o → Bounded s → Room s o
+takes-room kind o (S.Account a) balance h = tt
+takes-room kind o (S.Account a) (deposit l m) h = omega arith
+takes-room kind o (S.Account a) (withdraw l m) h = tt
+takes-room kind o (S.Account a) read h = tt
+takes-room kind o (S.Account a) (write m) h = tt
+takes-room kind o (S.Register v) t h = tt
+
+-- the answer's numbers are read back as that answer
+abbrev pub Recalls : State → Operation → Type 0
+Recalls s o = recallOf o (numbersOf (stepOf s o .outcome) .a) (numbersOf (stepOf s o .outcome) .b) ≡ Given (stepOf s o .outcome)
+
+pub takes-recalled : (kind : Kind) (o : Operation) (s : State) → StateOf kind s → Takes kind o → Bounded s → Recalls s o
+takes-recalled kind o s (account {n}) balance h = rw (le-leb 0 n (omega arith), le-leb n 2024000000 h)
+takes-recalled kind o s account (deposit l m) h = refl
+takes-recalled kind o s (account {n}) (withdraw {n = m} l k) h = ⊎-elim (λ e. rw (le-leb m n e)) (λ e. rw (lt-leb m n e)) (le-or m n)
+takes-recalled kind o s (register {n} b) read h = rw (le-leb 0 n (omega arith), le-leb n 1000000000 h)
+takes-recalled kind o s (register b) (write m) h = refl
