@@ -1,15 +1,17 @@
 -- What `decode` lets through: the operations of the kind with their arguments in range. So no sum wraps, and every answer is one that the form allows.
 use mathlib.Core.Path.{_≡_, refl}
-use mathlib.Core.Bool.{Bool, true, false, cond, _&&_, and-eq-true-iff}
+use mathlib.Core.Bool.{Bool, true, false, cond}
 use mathlib.Core.Logic.{⊎-elim}
 use Prim.Native.Nat.{ℕ, _≤_}
 use native.Mathlib.Omega.{arith}
-use lib.IntN.{ℤ, pos, negsuc}
-use lib.Dec.{leb, eqb}
-use borrow.Author.Tests.{leb-true, le-leb, lt-leb}
-use Rattle.below.proofs.Tests.{bool-or, le-or}
-use Rattle.serial.specs.Range.{withinOf, fits}
-use Rattle.serial.specs.Serial.{decodeOf, stepOf, Room, Bounded, numbersOf, recallOf}
+use lib.IntN.{ℤ}
+use lib.Dec.{eqb}
+use borrow.Author.Tests.{le-leb, lt-leb}
+use Rattle.below.proofs.Tests.{le-or}
+use Rattle.serial.specs.Range.{opens, fits}
+use Rattle.serial.specs.Serial.{openedOf, decodeOf, stepOf, Room, Bounded, numbersOf, recallOf}
+use Rattle.serial.specs.Account as A
+use Rattle.serial.specs.Register as R
 use Rattle.serial.specs.Object.{StateOf, account, register}
 use Rattle.serial.specs.declared.Kind.{Kind}
 use Rattle.serial.specs.declared.Kind.the-variants.{Account, Register, Unknown}
@@ -19,9 +21,12 @@ use Rattle.serial.specs.declared.State.{State}
 use Rattle.serial.specs.declared.State.the-variants as S
 use Rattle.serial.specs.declared.Operation.{Operation}
 use Rattle.serial.specs.declared.Operation.the-variants as O
+use Rattle.serial.specs.declared.Opening.{Opening}
+use Rattle.serial.specs.declared.Opening.the-variants.{At, Refused}
 use Rattle.serial.specs.declared.Decoded.{Decoded}
 use Rattle.serial.specs.declared.Decoded.the-variants.{Fit, Unfit}
 use Rattle.serial.specs.declared.Recalled.the-variants.{Given}
+use Rattle.serial.proofs.Within.{ranged}
 
 pub data Takes : Kind → Operation → Type 0 where
   balance : Takes Account (O.Account Balance)
@@ -38,21 +43,14 @@ either : (kind : Kind) (b : Bool) (d e : Decoded) → TakesIf kind d → TakesIf
 either kind true d e p q = p
 either kind false d e p q = q
 
-ranged : (kind : Kind) (f : ℕ → Operation) (x : ℤ) (low high : ℕ) → ((n : ℕ) → low ≤ n → n ≤ high → Takes kind (f n)) → TakesIf kind (fits f (withinOf x low high))
-ranged kind f (pos n) low high h =
-    ⊎-elim
-    (λ e. let b = and-eq-true-iff (leb low n) (leb n high) .0 e in rw e (h n (leb-true low n (b .0)) (leb-true n high (b .1))))
-    (λ e. rw e tt) (bool-or (leb low n && leb n high))
-ranged kind f (negsuc n) low high h = tt
-
 takes-if : (kind : Kind) (k : ℕ) (x : ℤ) → TakesIf kind (decodeOf kind k x)
 takes-if Account k x =
-    either Account (eqb k 1) _ _ (ranged Account (λ n. O.Account Balance) x 0 0 (λ n l h. balance))
-    (either Account (eqb k 2) _ _ (ranged Account (λ n. O.Account (Deposit n)) x 1 1000000 (λ n l h. deposit l h))
-    (either Account (eqb k 3) _ _ (ranged Account (λ n. O.Account (Withdraw n)) x 1 1000000 (λ n l h. withdraw l h)) tt))
+    either Account (eqb k 1) _ _ (ranged (TakesIf Account) (fits (λ n. O.Account Balance)) x 0 0 (λ n l h. balance) tt)
+    (either Account (eqb k 2) _ _ (ranged (TakesIf Account) (fits (λ n. O.Account (Deposit n))) x 1 1000000 (λ n l h. deposit l h) tt)
+    (either Account (eqb k 3) _ _ (ranged (TakesIf Account) (fits (λ n. O.Account (Withdraw n))) x 1 1000000 (λ n l h. withdraw l h) tt) tt))
 takes-if Register k x =
-    either Register (eqb k 4) _ _ (ranged Register (λ n. O.Register Read) x 0 0 (λ n l h. read))
-    (either Register (eqb k 5) _ _ (ranged Register (λ n. O.Register (Write n)) x 0 1000000000 (λ n l h. write h)) tt)
+    either Register (eqb k 4) _ _ (ranged (TakesIf Register) (fits (λ n. O.Register Read)) x 0 0 (λ n l h. read) tt)
+    (either Register (eqb k 5) _ _ (ranged (TakesIf Register) (fits (λ n. O.Register (Write n))) x 0 1000000000 (λ n l h. write h) tt) tt)
 takes-if Unknown k x = tt
 
 pub decoded-takes : (kind : Kind) (k : ℕ) (x : ℤ) (o : Operation) → decodeOf kind k x ≡ Fit o → Takes kind o
@@ -77,3 +75,23 @@ takes-recalled kind o s account (deposit l m) h = refl
 takes-recalled kind o s (account {n}) (withdraw {n = m} l k) h = ⊎-elim (λ e. rw (le-leb m n e)) (λ e. rw (lt-leb m n e)) (le-or m n)
 takes-recalled kind o s (register {n} b) read h = rw (le-leb 0 n (omega arith), le-leb n 1000000000 h)
 takes-recalled kind o s (register b) (write m) h = refl
+
+-- the object stays in the states of its kind
+pub takes-has : (kind : Kind) (o : Operation) (s : State) → StateOf kind s → Takes kind o → StateOf kind (stepOf s o .state)
+takes-has kind o s account balance = account
+takes-has kind o s account (deposit l m) = account
+takes-has kind o s (account {n}) (withdraw {n = m} l k) = ⊎-elim (λ e. rw (le-leb m n e) account) (λ e. rw (lt-leb m n e) account) (le-or m n)
+takes-has kind o s (register b) read = register b
+takes-has kind o s (register b) (write m) = register m
+
+abbrev OpensIf : Kind → Opening → Type 0
+OpensIf kind (At s) = StateOf kind s × Bounded s
+OpensIf kind Refused = Unit {0}
+
+opens-if : (kind : Kind) (x : ℤ) → OpensIf kind (openedOf kind x)
+opens-if Account x = ranged (OpensIf Account) (opens A.holding) x 0 1000000000 (λ n l h. (account, omega arith)) tt
+opens-if Register x = ranged (OpensIf Register) (opens R.holding) x 0 1000000000 (λ n l h. (register h, h)) tt
+opens-if Unknown x = tt
+
+pub opened-has : (kind : Kind) (x : ℤ) (s : State) → openedOf kind x ≡ At s → StateOf kind s × Bounded s
+opened-has kind x s e = rw e at (opens-if kind x)

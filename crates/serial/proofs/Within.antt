@@ -1,6 +1,7 @@
 -- What the machine's tests of an i64 say of the number itself, and what a call of `within` tells.
 use mathlib.Core.Path.{_≡_, refl, sym, ap, _∙_}
-use mathlib.Core.Bool.{Bool, true, false, cond, _&&_}
+use mathlib.Core.Bool.{Bool, true, false, cond, _&&_, and-eq-true-iff}
+use mathlib.Core.Logic.{⊎-elim}
 use Prim.Native.Nat.{ℕ, _<_, _≤_, _^_}
 use native.Mathlib.Omega.{arith}
 use lib.IntN.{ℤ, pos, negsuc, natAbs}
@@ -10,7 +11,8 @@ use mir.Syntax.{w32, w64}
 use mir.Val.{SFits, Fits, toZ, ofZ}
 use mir.ValLaws.{toZ-pos}
 use mir.Facts.{toZ-ofZ}
-use borrow.Author.Tests.{ltb-true, ltb-false, le-leb, lt-leb}
+use borrow.Author.Tests.{ltb-true, ltb-false, leb-true, le-leb, lt-leb}
+use Rattle.below.proofs.Tests.{bool-or}
 use Rattle.serial.specs.Range.{withinOf}
 use Rattle.serial.specs.declared.range.Ranged.{Ranged}
 use Rattle.serial.specs.declared.range.Ranged.the-variants.{In, Out}
@@ -46,3 +48,12 @@ module _ (low high : ℕ) where
   pub in-bits : (x : ℤ) → Fits w32 high → ltZ x (pos low) ≡ false → ltZ (pos high) x ≡ false → T (nonNeg x) × Fits w32 (natAbs x)
   in-bits (pos n) h e f = (tt, record { fits = omega (arith, ltb-false high n f, h .fits) })
   in-bits (negsuc n) h e f = absurd (let z : _≡_ {A = ℕ} 0 1 = cc in omega arith)
+
+-- what holds of each number in the range, and of `Out`, holds of the number tested
+pub ranged : {A : Type 0} (P : A → Type 0) (g : Ranged → A) (x : ℤ) (low high : ℕ) → ((n : ℕ) → low ≤ n → n ≤ high → P (g (In n))) → P (g Out)
+    → P (g (withinOf x low high))
+ranged P g (pos n) low high h out =
+    ⊎-elim
+    (λ e. let b = and-eq-true-iff (leb low n) (leb n high) .0 e in rw e (h n (leb-true low n (b .0)) (leb-true n high (b .1))))
+    (λ e. rw e out) (bool-or (leb low n && leb n high))
+ranged P g (negsuc n) low high h out = out

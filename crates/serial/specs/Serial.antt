@@ -29,8 +29,8 @@ use Rattle.serial.specs.declared.Rule.the-variants.{Pass, Conflict}
 use Rattle.serial.specs.Account as A
 use Rattle.serial.specs.Register as R
 
--- by the letters A and R
-abbrev pub kindOf : ℕ → Kind
+-- A, account; R, register
+unfoldable pub kindOf : ℕ → Kind
 kindOf letter = cond (eqb letter 65) Account (cond (eqb letter 82) Register Unknown)
 
 abbrev pub openedOf : Kind → ℤ → Opening

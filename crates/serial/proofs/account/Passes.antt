@@ -3,15 +3,15 @@
 use mathlib.Core.Path.{_≡_, refl, sym, ap, _∙_}
 use mathlib.Core.Bool.{false, true≢false}
 use mathlib.Core.Logic.{⊎-elim}
-use Prim.Native.Nat.{ℕ, _+_, _-_, _<_, _≤_}
+use Prim.Native.Nat.{ℕ, _+_, _-_, _<_, _≤_, max}
 use native.Mathlib.Omega.{arith}
 use borrow.Author.Tests.{le-leb, lt-leb}
 use Rattle.below.proofs.Tests.{le-or}
-use Rattle.theory.specs.Serial.{Serial, Op, Right, Swaps}
+use Rattle.theory.specs.Serial.{Serial, Op, Right, Swaps, Commute}
 use Rattle.theory.proofs.Forms.{Form, swaps}
 use Rattle.serial.specs.Account.{holding, stepOf, classOf, table}
 use Rattle.serial.specs.Serial.{entry, verdict}
-use Rattle.serial.specs.Object.{objectOf}
+use Rattle.serial.specs.Object.{account, objectOf}
 use Rattle.serial.specs.declared.account.AccountOperation.{AccountOperation}
 use Rattle.serial.specs.declared.account.AccountOperation.the-variants.{Balance, Deposit, Withdraw}
 use Rattle.serial.specs.declared.Kind.the-variants.{Account}
@@ -106,3 +106,12 @@ pass (row3 {n}) (row2 {n = m}) e b = swaps object holding (short n) (drawn m) b 
 pass (row3 {n}) (row3 {n = m}) e b = swaps object holding (short n) (short m) b (omega arith)
 pass row3 none e b = absurd (true≢false e)
 pass none q e b = absurd (true≢false e)
+
+-- the paper's own example of two operations that do not commute: successful withdrawals, at a balance that covers each and not both
+pub withdrawals-clash : (n m : ℕ) → 0 < n → 0 < m → Commute object (op (Withdraw n) Ok) (op (Withdraw m) Ok) → ⊥
+unfolding drawn
+withdrawals-clash n m hn hm commute =
+    let w = commute (holding (max n m)) account (drawn n .right (max n m) (omega arith)) (drawn m .right (max n m) (omega arith)) in
+    let second = drawn m .tells (max n m - n) (rw (drawn n .ends (max n m) (omega arith)) at (w .q-second)) in
+    let first = drawn n .tells (max n m - m) (rw (drawn m .ends (max n m) (omega arith)) at (w .p-second)) in
+    omega arith
