@@ -45,12 +45,14 @@ climb-ind above n w P base step x h = go x x (omega arith) h
 
 module _ (above : ℕ → ℕ) (p : ℕ → Bool) where
   pub up-here : (y : ℕ) → p y ≡ true → upAny above p y ≡ true
-  unfolding climb climbIn
+  unfolding upAny climb climbIn
   up-here zero e = e
   up-here (suc y) e = rw e
 
   pub up-stop : (y : ℕ) → y ≡ 0 → p y ≡ false → upAny above p y ≡ false
+  unfolding upAny
   up-stop y z n = rw (z, climb-root above (p 0) (λ y rest. p y || rest)) (rw z at n)
 
   pub up-next : (y : ℕ) → Lower (y + 1) above → (y ≡ 0 → ⊥) → p y ≡ false → upAny above p y ≡ upAny above p (above y)
+  unfolding upAny
   up-next y w z n = climb-step above (p 0) (λ y rest. p y || rest) y w (omega arith) ∙ rw n

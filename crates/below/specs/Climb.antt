@@ -17,5 +17,5 @@ module _ {A : Type 0} (above : ℕ → ℕ) (root : A) (f : ℕ → A → A) whe
   climb x = climbIn x x
 
 -- some number at or above x passes
-abbrev pub upAny : (ℕ → ℕ) → (ℕ → Bool) → ℕ → Bool
+unfoldable pub upAny : (ℕ → ℕ) → (ℕ → Bool) → ℕ → Bool
 upAny above p x = climb above (p 0) (λ y rest. p y || rest) x
