@@ -1,7 +1,7 @@
 -- The laws of a loop that tests each number below a bound. `-start`: before the first turn. `-none`, `-more`: a turn, from i to i + 1.
 -- `-here`, `-broken`: a turn that ends the loop. `-end`: after the last. `-at`: at a number below the bound.
 use Prim.Native.Nat.{ℕ, zero, suc, _+_, _≤_, _<_}
-use mathlib.Core.Bool.{Bool, true, false, cond, _&&_, _||_, and-eq-true-iff, or-true}
+use mathlib.Core.Bool.{Bool, true, false, and-eq-true-iff, or-true}
 use mathlib.Core.Path.{_≡_, refl, sym, ap, _∙_}
 use mathlib.Core.Logic.{⊎-elim}
 use native.Mathlib.Numerals.{add-one}

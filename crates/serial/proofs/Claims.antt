@@ -1,7 +1,7 @@
 -- What is proved of the serial objects, besides each function's own contract.
 use mathlib.Core.Path.{_≡_, refl, sym, ap, _∙_}
 use mathlib.Core.Bool.{true, false, true≢false}
-use Prim.Native.Nat.{ℕ}
+use Prim.Native.Nat.{ℕ, _+_, _*_}
 use lib.IntN.{ℤ}
 use Rattle.below.specs.Below.{allBelow}
 use Rattle.theory.specs.Serial.{Right, Swaps, Commute, AlikeIsSame}
@@ -19,8 +19,8 @@ use Rattle.serial.specs.declared.State.{State}
 use Rattle.serial.specs.declared.State.the-variants as S
 use Rattle.serial.specs.declared.Operation.{Operation}
 use Rattle.serial.specs.declared.Operation.the-variants as O
-use Rattle.serial.specs.declared.Outcome.{Outcome}
-use Rattle.serial.specs.declared.Outcome.the-variants.{Value}
+use Rattle.serial.specs.declared.outcome.Outcome.{Outcome}
+use Rattle.serial.specs.declared.outcome.Outcome.the-variants.{Value}
 use Rattle.serial.specs.declared.Answered.{Answered}
 use Rattle.serial.specs.declared.Opening.the-variants.{At}
 use Rattle.serial.specs.declared.Decoded.the-variants.{Fit}
@@ -76,6 +76,10 @@ opened-has = T.opened-has
 
 pub step-has : (kind : Kind) (k : ℕ) (x : ℤ) (o : Operation) (s : State) → decodeOf kind k x ≡ Fit o → StateOf kind s → StateOf kind (stepOf s o .state)
 step-has kind k x o s e has = takes-has kind o s has (decoded-takes kind k x o e)
+
+-- Document 01: the largest opening and 1,024 deposits of the largest size.
+pub largest-balance : AS.openingMost + 1024 * AS.amountMost ≡ AS.balanceMost
+largest-balance = refl
 
 -- No sum can wrap: what `decode` lets through has room in every state that a store reaches.
 pub no-sum-wraps : (kind : Kind) (k : ℕ) (x : ℤ) (o : Operation) (s : State) → decodeOf kind k x ≡ Fit o → Bounded s → Room s o

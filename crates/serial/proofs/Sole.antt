@@ -15,7 +15,7 @@ decode κs a x y s t = sole
 step : Sole 0 of.step.Kinds.ps of.step.Kinds.r of.step.Reads.Learnt
 step κs a x y s t = sole
 
-numbers-of : Sole 0 of.numbers_of.Kinds.ps of.numbers_of.Kinds.r of.numbers_of.Reads.Learnt
+numbers-of : Sole 0 of.outcome.numbers_of.Kinds.ps of.outcome.numbers_of.Kinds.r of.outcome.numbers_of.Reads.Learnt
 numbers-of κs a x y s t = sole
 
 recall : Sole 0 of.recall.Kinds.ps of.recall.Kinds.r of.recall.Reads.Learnt
@@ -27,10 +27,10 @@ conflicts κs a x y s t = sole
 within : Sole 0 of.range.within.Kinds.ps of.range.within.Kinds.r of.range.within.Reads.Learnt
 within κs a x y s t = sole
 
-with-value : Sole 0 of.range.with_value.Kinds.ps of.range.with_value.Kinds.r of.range.with_value.Reads.Learnt
+with-value : Sole 0 of.outcome.with_value.Kinds.ps of.outcome.with_value.Kinds.r of.outcome.with_value.Reads.Learnt
 with-value κs a x y s t = sole
 
-without-value : Sole 0 of.range.without_value.Kinds.ps of.range.without_value.Kinds.r of.range.without_value.Reads.Learnt
+without-value : Sole 0 of.outcome.without_value.Kinds.ps of.outcome.without_value.Kinds.r of.outcome.without_value.Reads.Learnt
 without-value κs a x y s t = sole
 
 account-opened : Sole 0 of.account.Account.opened.Kinds.ps of.account.Account.opened.Kinds.r of.account.Account.opened.Reads.Learnt

@@ -18,10 +18,10 @@ use Rattle.serial.specs.declared.Rule.{Rule}
 use Rattle.serial.specs.declared.Rule.the-variants.{Pass, Conflict}
 
 -- inside a list the default is of no account
-within : {A : Type 0} (l : List A) (k : ℕ) (d e : A) → k < length l → getD l k d ≡ getD l k e
-within [] k d e h = absurd (omega arith)
-within (x ∷ l) zero d e h = refl
-within (x ∷ l) (suc k) d e h = within l k d e (omega arith)
+default-free : {A : Type 0} (l : List A) (k : ℕ) (d e : A) → k < length l → getD l k d ≡ getD l k e
+default-free [] k d e h = absurd (omega arith)
+default-free (x ∷ l) zero d e h = refl
+default-free (x ∷ l) (suc k) d e h = default-free l k d e (omega arith)
 
 -- there are n rows, each of n entries
 abbrev pub square : ℕ → List (List Rule) → Bool
@@ -36,7 +36,7 @@ module _ (rows : List (List Rule)) (n : ℕ) (sized : square n rows ≡ true) wh
 
   pub inside : (a b : ℕ) → a < n → b < n → getD (getD rows a []) b Pass ≡ entry rows a b
   unfolding entry
-  inside a b ha hb = within (getD rows a []) b Pass Conflict (rw (row-length a ha) hb)
+  inside a b ha hb = default-free (getD rows a []) b Pass Conflict (rw (row-length a ha) hb)
 
   pub past-rows : (a b : ℕ) → n ≤ a → Conflict ≡ entry rows a b
   unfolding entry

@@ -9,13 +9,12 @@ use Rattle.serial.specs.declared.account.AccountOperation.{AccountOperat
 use Rattle.serial.specs.declared.account.AccountOperation.the-variants.{Balance, Deposit, Withdraw}
 use Rattle.serial.specs.declared.State.{State}
 use Rattle.serial.specs.declared.State.the-variants as S
-use Rattle.serial.specs.declared.Operation.{Operation}
 use Rattle.serial.specs.declared.Operation.the-variants as O
-use Rattle.serial.specs.declared.Outcome.{Outcome}
-use Rattle.serial.specs.declared.Outcome.the-variants.{Ok, Fail, Value}
+use Rattle.serial.specs.declared.outcome.Outcome.{Outcome}
+use Rattle.serial.specs.declared.outcome.Outcome.the-variants.{Ok, Fail, Value}
 use Rattle.serial.specs.declared.Stepped.{Stepped}
-use Rattle.serial.specs.declared.Recalled.{Recalled}
-use Rattle.serial.specs.declared.Recalled.the-variants.{Unshaped}
+use Rattle.serial.specs.declared.outcome.Recalled.{Recalled}
+use Rattle.serial.specs.declared.outcome.Recalled.the-variants.{Unshaped}
 use Rattle.serial.specs.declared.Opening.{Opening}
 use Rattle.serial.specs.declared.Decoded.{Decoded}
 use Rattle.serial.specs.declared.Decoded.the-variants.{Unfit}
@@ -23,22 +22,33 @@ use Rattle.serial.specs.declared.Class.{Class}
 use Rattle.serial.specs.declared.Class.the-variants.{Row, None}
 use Rattle.serial.specs.declared.Rule.{Rule}
 use Rattle.serial.specs.declared.Rule.the-variants.{Pass, Conflict}
-use Rattle.serial.specs.Range.{withinOf, opens, fits, withValue, withoutValue}
+use Rattle.serial.specs.Range.{withinOf, opens, fits}
+use Rattle.serial.specs.Outcome.{ok, fail, value, withValue, withoutValue}
 
 -- the account with this balance
 abbrev pub holding : ℕ → State
 holding n = S.Account (record { balance = n })
 
--- opening 0 to 1,000,000,000
+-- openings 0 to 1,000,000,000, amounts 1 to 1,000,000
+abbrev pub openingMost : ℕ
+openingMost = 1_000_000_000
+
+abbrev pub amountMost : ℕ
+amountMost = 1_000_000
+
+-- no balance can exceed the largest opening and 1,024 deposits of the largest size
+abbrev pub balanceMost : ℕ
+balanceMost = 2_024_000_000
+
 abbrev pub openedOf : ℤ → Opening
-openedOf opening = opens holding (withinOf opening 0 1000000000)
+openedOf opening = opens holding (withinOf opening 0 openingMost)
 
 -- 1 balance (argument 0), 2 deposit and 3 withdraw (argument 1 to 1,000,000)
 abbrev pub decodeOf : ℕ → ℤ → Decoded
 decodeOf operation argument =
     cond (eqb operation 1) (fits (λ n. O.Account Balance) (withinOf argument 0 0))
-    (cond (eqb operation 2) (fits (λ n. O.Account (Deposit n)) (withinOf argument 1 1000000))
-    (cond (eqb operation 3) (fits (λ n. O.Account (Withdraw n)) (withinOf argument 1 1000000)) Unfit))
+    (cond (eqb operation 2) (fits (λ n. O.Account (Deposit n)) (withinOf argument 1 amountMost))
+    (cond (eqb operation 3) (fits (λ n. O.Account (Withdraw n)) (withinOf argument 1 amountMost)) Unfit))
 
 -- a withdrawal succeeds if the balance is at least the amount; otherwise it answers FAIL and changes nothing
 abbrev pub stepOf : Account → AccountOperation → Stepped
@@ -48,11 +58,11 @@ stepOf account (Withdraw n) =
     cond (leb n (account .balance)) (record { state = holding (account .balance - n); outcome = Ok })
     (record { state = S.Account account; outcome = Fail })
 
--- the outcomes that an operation allows, by a and b: a balance from 0 to 2,024,000,000, the largest opening and 1,024 deposits of the largest size
+-- the outcomes that an operation allows, by a and b
 abbrev pub recallOf : AccountOperation → ℕ → ℤ → Recalled
-recallOf Balance a b = cond (eqb a 2) (withValue b 0 2024000000) Unshaped
-recallOf (Deposit n) a b = cond (eqb a 1) (withoutValue Ok b) Unshaped
-recallOf (Withdraw n) a b = cond (eqb a 1) (withoutValue Ok b) (cond (eqb a 0) (withoutValue Fail b) Unshaped)
+recallOf Balance a b = cond (eqb a value) (withValue b 0 balanceMost) Unshaped
+recallOf (Deposit n) a b = cond (eqb a ok) (withoutValue Ok b) Unshaped
+recallOf (Withdraw n) a b = cond (eqb a ok) (withoutValue Ok b) (cond (eqb a fail) (withoutValue Fail b) Unshaped)
 
 -- the row of each class of answer: balance, deposit, withdraw OK, withdraw FAIL
 abbrev pub classOf : AccountOperation → Outcome → Class

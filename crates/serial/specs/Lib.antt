@@ -1,4 +1,5 @@
 pub mod Range
+pub mod Outcome
 pub mod Account
 pub mod Register
 pub mod Serial

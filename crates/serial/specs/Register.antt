@@ -9,13 +9,12 @@ use Rattle.serial.specs.declared.register.RegisterOperation.{RegisterOpe
 use Rattle.serial.specs.declared.register.RegisterOperation.the-variants.{Read, Write}
 use Rattle.serial.specs.declared.State.{State}
 use Rattle.serial.specs.declared.State.the-variants as S
-use Rattle.serial.specs.declared.Operation.{Operation}
 use Rattle.serial.specs.declared.Operation.the-variants as O
-use Rattle.serial.specs.declared.Outcome.{Outcome}
-use Rattle.serial.specs.declared.Outcome.the-variants.{Ok, Fail, Value}
+use Rattle.serial.specs.declared.outcome.Outcome.{Outcome}
+use Rattle.serial.specs.declared.outcome.Outcome.the-variants.{Ok, Fail, Value}
 use Rattle.serial.specs.declared.Stepped.{Stepped}
-use Rattle.serial.specs.declared.Recalled.{Recalled}
-use Rattle.serial.specs.declared.Recalled.the-variants.{Unshaped}
+use Rattle.serial.specs.declared.outcome.Recalled.{Recalled}
+use Rattle.serial.specs.declared.outcome.Recalled.the-variants.{Unshaped}
 use Rattle.serial.specs.declared.Opening.{Opening}
 use Rattle.serial.specs.declared.Decoded.{Decoded}
 use Rattle.serial.specs.declared.Decoded.the-variants.{Unfit}
@@ -23,30 +22,34 @@ use Rattle.serial.specs.declared.Class.{Class}
 use Rattle.serial.specs.declared.Class.the-variants.{Row, None}
 use Rattle.serial.specs.declared.Rule.{Rule}
 use Rattle.serial.specs.declared.Rule.the-variants.{Pass, Conflict}
-use Rattle.serial.specs.Range.{withinOf, opens, fits, withValue, withoutValue}
+use Rattle.serial.specs.Range.{withinOf, opens, fits}
+use Rattle.serial.specs.Outcome.{ok, value, withValue, withoutValue}
 
 -- the register with this value
 abbrev pub holding : ℕ → State
 holding n = S.Register (record { value = n })
 
--- opening 0 to 1,000,000,000
+-- opened with, written and read: 0 to 1,000,000,000
+abbrev pub valueMost : ℕ
+valueMost = 1_000_000_000
+
 abbrev pub openedOf : ℤ → Opening
-openedOf opening = opens holding (withinOf opening 0 1000000000)
+openedOf opening = opens holding (withinOf opening 0 valueMost)
 
 -- 4 read (argument 0), 5 write (argument 0 to 1,000,000,000)
 abbrev pub decodeOf : ℕ → ℤ → Decoded
 decodeOf operation argument =
     cond (eqb operation 4) (fits (λ n. O.Register Read) (withinOf argument 0 0))
-    (cond (eqb operation 5) (fits (λ n. O.Register (Write n)) (withinOf argument 0 1000000000)) Unfit)
+    (cond (eqb operation 5) (fits (λ n. O.Register (Write n)) (withinOf argument 0 valueMost)) Unfit)
 
 abbrev pub stepOf : Register → RegisterOperation → Stepped
 stepOf register Read = record { state = S.Register register; outcome = Value (register .value) }
 stepOf register (Write n) = record { state = holding n; outcome = Ok }
 
--- the outcomes that an operation allows, by a and b: a value from 0 to 1,000,000,000
+-- the outcomes that an operation allows, by a and b
 abbrev pub recallOf : RegisterOperation → ℕ → ℤ → Recalled
-recallOf Read a b = cond (eqb a 2) (withValue b 0 1000000000) Unshaped
-recallOf (Write n) a b = cond (eqb a 1) (withoutValue Ok b) Unshaped
+recallOf Read a b = cond (eqb a value) (withValue b 0 valueMost) Unshaped
+recallOf (Write n) a b = cond (eqb a ok) (withoutValue Ok b) Unshaped
 
 -- the row of each class of answer: read, write
 abbrev pub classOf : RegisterOperation → Outcome → Class

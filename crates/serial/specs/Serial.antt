@@ -2,7 +2,7 @@
 use Prim.Native.Nat.{ℕ, _+_, _<_, _≤_, _^_}
 use mathlib.Core.Bool.{Bool, true, false, cond}
 use mathlib.Core.List.{List, []}
-use lib.IntN.{ℤ, pos}
+use lib.IntN.{ℤ}
 use lib.Dec.{eqb}
 use lib.ListN.{getD}
 use Rattle.serial.specs.declared.Kind.{Kind}
@@ -12,12 +12,11 @@ use Rattle.serial.specs.declared.State.{State}
 use Rattle.serial.specs.declared.State.the-variants as S
 use Rattle.serial.specs.declared.Operation.{Operation}
 use Rattle.serial.specs.declared.Operation.the-variants as O
-use Rattle.serial.specs.declared.Outcome.{Outcome}
-use Rattle.serial.specs.declared.Outcome.the-variants.{Ok, Fail, Value}
+use Rattle.serial.specs.declared.outcome.Outcome.{Outcome}
+use Rattle.serial.specs.declared.outcome.Outcome.the-variants.{Fail}
 use Rattle.serial.specs.declared.Answered.{Answered}
 use Rattle.serial.specs.declared.Stepped.{Stepped}
-use Rattle.serial.specs.declared.Numbers.{Numbers}
-use Rattle.serial.specs.declared.Recalled.{Recalled}
+use Rattle.serial.specs.declared.outcome.Recalled.{Recalled}
 use Rattle.serial.specs.declared.Opening.{Opening}
 use Rattle.serial.specs.declared.Opening.the-variants.{Refused}
 use Rattle.serial.specs.declared.Decoded.{Decoded}
@@ -61,14 +60,8 @@ Room (S.Register register) o = Unit {0}
 
 -- no balance exceeds the largest opening and 1,024 deposits of the largest size; a register's value is one that can be written
 abbrev pub Bounded : State → Type 0
-Bounded (S.Account account) = account .balance ≤ 2024000000
-Bounded (S.Register register) = register .value ≤ 1000000000
-
--- a is 1 for OK, 0 for FAIL, 2 for a value; b is the value, else 0
-abbrev pub numbersOf : Outcome → Numbers
-numbersOf Ok = record { a = 1; b = pos 0 }
-numbersOf Fail = record { a = 0; b = pos 0 }
-numbersOf (Value v) = record { a = 2; b = pos v }
+Bounded (S.Account account) = account .balance ≤ A.balanceMost
+Bounded (S.Register register) = register .value ≤ R.valueMost
 
 -- the outcome with these numbers, if its shape is one that the operation allows
 abbrev pub recallOf : Operation → ℕ → ℤ → Recalled

@@ -1,13 +1,18 @@
 // The serial objects of document 01: what each kind takes, what an operation does to a state and answers, and which answers conflict.
 // A kind's own part is in its own file; here the kinds are told apart.
 pub mod account;
+pub mod outcome;
 mod range;
 pub mod register;
 
 ghost use mathlib.Core.Path.{_≡_};
-ghost use Rattle.serial.specs.Serial.{kindOf, openedOf, decodeOf, stepOf, Room, numbersOf, recallOf, classOf, tableOf, entry, conflictOf};
+ghost use Rattle.serial.specs.Serial.{kindOf, openedOf, decodeOf, stepOf, Room, recallOf, classOf, tableOf, entry, conflictOf};
 use account::Account;
 use account::AccountOperation;
+pub use outcome::Numbers;
+pub use outcome::Outcome;
+pub use outcome::Recalled;
+pub use outcome::numbers_of;
 use register::Register;
 use register::RegisterOperation;
 
@@ -25,12 +30,6 @@ pub enum Operation {
 pub enum State {
     Account(Account),
     Register(Register),
-}
-
-pub enum Outcome {
-    Ok,
-    Fail,
-    Value(u32),
 }
 
 // An operation with its outcome.
@@ -54,29 +53,6 @@ pub enum Decoded {
 pub struct Stepped {
     pub state: State,
     pub outcome: Outcome,
-}
-
-// The outcome that a and b stand for, where the operation allows it.
-pub enum Recalled {
-    Given(Outcome),
-    Unshaped,
-}
-
-// Document 01's a and b of an outcome.
-pub struct Numbers {
-    pub a: u32,
-    pub b: i64,
-}
-
-impl Numbers {
-    // The values of a.
-    pub const FAIL: u32 = 0;
-
-    pub const OK: u32 = 1;
-
-    pub const VALUE: u32 = 2;
-    // Of b, where there is no value.
-    pub const NONE: i64 = 0;
 }
 
 // The row, and column, of an answer in the table of its kind.
@@ -140,25 +116,6 @@ pub fn step(state: State, operation: Operation) -> Stepped
                 state,
                 outcome: Outcome::Fail,
             },
-        },
-    }
-}
-
-pub fn numbers_of(outcome: Outcome) -> Numbers
-    ensures { λ r. ⌜ r ≡ numbersOf outcome ⌝ }
-{
-    match outcome {
-        Outcome::Ok => Numbers {
-            a: Numbers::OK,
-            b: Numbers::NONE,
-        },
-        Outcome::Fail => Numbers {
-            a: Numbers::FAIL,
-            b: Numbers::NONE,
-        },
-        Outcome::Value(v) => Numbers {
-            a: Numbers::VALUE,
-            b: v as i64,
         },
     }
 }

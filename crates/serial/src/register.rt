@@ -4,18 +4,18 @@ ghost use Rattle.serial.specs.Register.{openedOf, decodeOf, stepOf, reca
 ghost use Rattle.serial.specs.Serial.{entry};
 use crate::Class;
 use crate::Decoded;
-use crate::Numbers;
 use crate::Opening;
 use crate::Operation;
-use crate::Outcome;
-use crate::Recalled;
 use crate::Rule;
 use crate::State;
 use crate::Stepped;
+use crate::outcome::Numbers;
+use crate::outcome::Outcome;
+use crate::outcome::Recalled;
+use crate::outcome::with_value;
+use crate::outcome::without_value;
 use crate::range::Ranged;
-use crate::range::with_value;
 use crate::range::within;
-use crate::range::without_value;
 
 pub struct Register {
     pub value: u32,

@@ -16,8 +16,8 @@ use Rattle.serial.specs.declared.account.AccountOperation.{AccountOperat
 use Rattle.serial.specs.declared.account.AccountOperation.the-variants.{Balance, Deposit, Withdraw}
 use Rattle.serial.specs.declared.Kind.the-variants.{Account}
 use Rattle.serial.specs.declared.Operation.the-variants as O
-use Rattle.serial.specs.declared.Outcome.{Outcome}
-use Rattle.serial.specs.declared.Outcome.the-variants.{Ok, Fail, Value}
+use Rattle.serial.specs.declared.outcome.Outcome.{Outcome}
+use Rattle.serial.specs.declared.outcome.Outcome.the-variants.{Ok, Fail, Value}
 use Rattle.serial.specs.declared.Class.{Class}
 use Rattle.serial.specs.declared.Class.the-variants.{Row, None}
 

@@ -12,8 +12,8 @@ use Rattle.serial.specs.declared.register.RegisterOperation.{RegisterOpe
 use Rattle.serial.specs.declared.register.RegisterOperation.the-variants.{Read, Write}
 use Rattle.serial.specs.declared.Kind.the-variants.{Register}
 use Rattle.serial.specs.declared.Operation.the-variants as O
-use Rattle.serial.specs.declared.Outcome.{Outcome}
-use Rattle.serial.specs.declared.Outcome.the-variants.{Ok, Fail, Value}
+use Rattle.serial.specs.declared.outcome.Outcome.{Outcome}
+use Rattle.serial.specs.declared.outcome.Outcome.the-variants.{Ok, Fail, Value}
 use Rattle.serial.specs.declared.Class.{Class}
 use Rattle.serial.specs.declared.Class.the-variants.{Row, None}
 

@@ -1,8 +1,9 @@
 use mathlib.Core.Path.{ap, _∙_}
 use mir.Facts.{toZ-ofZ}
 use borrow.Author.Tests.{ne-eqb}
-use Rattle.serial.specs.Range.{withValue, withoutValue}
-use Rattle.serial.specs.declared.Outcome.the-variants.{Ok, Fail}
+use Rattle.serial.specs.Outcome.{withValue, withoutValue}
+use Rattle.serial.specs.Account.{balanceMost}
+use Rattle.serial.specs.declared.outcome.Outcome.the-variants.{Ok, Fail}
 use borrow.Author.Needs.{needs}
 use Rattle.serial.proofs.account.Account.recall.Statement.{statement}
 use Rattle.serial.proofs.account.Account.recall.Tie as tie
@@ -31,7 +32,7 @@ without-value-requires-3 c κs = search needs
 returns : tie.Need-returns
 returns c =
     rw (c .before .before .enum-told .given .1, c .before .match2 .keys1)
-    (c .with-value .ensures ∙ ap (λ b. withValue b 0 2024000000) (toZ-ofZ (c .before .before .before .before .fits .b)))
+    (c .with-value .ensures ∙ ap (λ b. withValue b 0 balanceMost) (toZ-ofZ (c .before .before .before .before .fits .b)))
 
 returns-2 : tie.Need-returns-2
 returns-2 c = rw (c .before .enum-told .given .1, ne-eqb _ _ (c .match2 .rest .1))

@@ -1,8 +1,9 @@
 use mathlib.Core.Path.{ap, _∙_}
 use mir.Facts.{toZ-ofZ}
 use borrow.Author.Tests.{ne-eqb}
-use Rattle.serial.specs.Range.{withValue, withoutValue}
-use Rattle.serial.specs.declared.Outcome.the-variants.{Ok}
+use Rattle.serial.specs.Outcome.{withValue, withoutValue}
+use Rattle.serial.specs.Register.{valueMost}
+use Rattle.serial.specs.declared.outcome.Outcome.the-variants.{Ok}
 use borrow.Author.Needs.{needs}
 use Rattle.serial.proofs.register.Register.recall.Statement.{statement}
 use Rattle.serial.proofs.register.Register.recall.Tie as tie
@@ -22,7 +23,7 @@ without-value-requires c κs = search needs
 returns : tie.Need-returns
 returns c =
     rw (c .before .before .enum-told .given .1, c .before .match2 .keys1)
-    (c .with-value .ensures ∙ ap (λ b. withValue b 0 1000000000) (toZ-ofZ (c .before .before .before .before .fits .b)))
+    (c .with-value .ensures ∙ ap (λ b. withValue b 0 valueMost) (toZ-ofZ (c .before .before .before .before .fits .b)))
 
 returns-2 : tie.Need-returns-2
 returns-2 c = rw (c .before .enum-told .given .1, ne-eqb _ _ (c .match2 .rest .1))

@@ -1,9 +1,9 @@
 use Rattle.serial.proofs.Within.{told}
-use Rattle.serial.specs.Range.{gives}
-use Rattle.serial.specs.declared.Outcome.the-variants.{Value}
+use Rattle.serial.specs.Outcome.{gives}
+use Rattle.serial.specs.declared.outcome.Outcome.the-variants.{Value}
 use borrow.Author.Needs.{needs}
-use Rattle.serial.proofs.range.with_value.Statement.{statement}
-use Rattle.serial.proofs.range.with_value.Tie as tie
+use Rattle.serial.proofs.outcome.with_value.Statement.{statement}
+use Rattle.serial.proofs.outcome.with_value.Tie as tie
 
 within-requires : tie.Need-within-requires
 within-requires c κs = search needs

@@ -3,8 +3,8 @@ use native.Mathlib.Omega.{arith}
 use mir.Syntax.{w64}
 use mir.ValLaws.{toZ-pos}
 use borrow.Author.Needs.{needs}
-use Rattle.serial.proofs.numbers_of.Statement.{statement}
-use Rattle.serial.proofs.numbers_of.Tie as tie
+use Rattle.serial.proofs.outcome.numbers_of.Statement.{statement}
+use Rattle.serial.proofs.outcome.numbers_of.Tie as tie
 
 enum-told : tie.Need-enum-told
 enum-told c = search needs

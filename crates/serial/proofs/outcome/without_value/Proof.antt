@@ -1,8 +1,8 @@
 use Rattle.serial.proofs.Within.{told}
-use Rattle.serial.specs.Range.{gives}
+use Rattle.serial.specs.Outcome.{gives}
 use borrow.Author.Needs.{needs}
-use Rattle.serial.proofs.range.without_value.Statement.{statement}
-use Rattle.serial.proofs.range.without_value.Tie as tie
+use Rattle.serial.proofs.outcome.without_value.Statement.{statement}
+use Rattle.serial.proofs.outcome.without_value.Tie as tie
 
 within-requires : tie.Need-within-requires
 within-requires c κs = search needs
