@@ -1,4 +1,5 @@
 pub mod Within
+pub mod Outcomes
 pub mod Table
 pub mod Takes
 pub mod Claims

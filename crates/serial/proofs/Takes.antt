@@ -2,18 +2,21 @@
 use mathlib.Core.Path.{_≡_, refl}
 use mathlib.Core.Bool.{Bool, true, false, cond}
 use mathlib.Core.Logic.{⊎-elim}
-use Prim.Native.Nat.{ℕ, _≤_}
+use Prim.Native.Nat.{ℕ, suc, _+_, _-_, _*_, _≤_}
+use mathlib.Core.List.{List, [], _∷_}
+use lib.ListN.{length}
+use native.Mathlib.Nat.{add-zero}
 use native.Mathlib.Omega.{arith}
 use lib.IntN.{ℤ}
 use lib.Dec.{eqb}
 use borrow.Author.Tests.{le-leb, lt-leb}
 use Rattle.below.proofs.Tests.{le-or}
-use Rattle.serial.specs.Range.{opens, fits}
-use Rattle.serial.specs.Serial.{openedOf, decodeOf, stepOf, Room, Bounded, recallOf}
+use Rattle.theory.specs.Serial.{Op, run}
+use Rattle.serial.specs.Kinds.{openedOf, decodeOf, stepOf, Room, Bounded, recallOf}
 use Rattle.serial.specs.Outcome.{numbersOf}
 use Rattle.serial.specs.Account as A
 use Rattle.serial.specs.Register as R
-use Rattle.serial.specs.Object.{StateOf, account, register}
+use Rattle.serial.specs.Object.{StateOf, account, register, objectOf}
 use Rattle.serial.specs.declared.Kind.{Kind}
 use Rattle.serial.specs.declared.Kind.the-variants.{Account, Register, Unknown}
 use Rattle.serial.specs.declared.account.AccountOperation.the-variants.{Balance, Deposit, Withdraw}
@@ -46,18 +49,18 @@ either kind false d e p q = q
 
 takes-if : (kind : Kind) (k : ℕ) (x : ℤ) → TakesIf kind (decodeOf kind k x)
 takes-if Account k x =
-    either Account (eqb k 1) _ _ (ranged (TakesIf Account) (fits (λ n. O.Account Balance)) x 0 0 (λ n l h. balance) tt)
-    (either Account (eqb k 2) _ _ (ranged (TakesIf Account) (fits (λ n. O.Account (Deposit n))) x 1 A.amountMost (λ n l h. deposit l h) tt)
-    (either Account (eqb k 3) _ _ (ranged (TakesIf Account) (fits (λ n. O.Account (Withdraw n))) x 1 A.amountMost (λ n l h. withdraw l h) tt) tt))
+    either Account (eqb k 1) _ _ (ranged (TakesIf Account) _ Unfit x 0 0 (λ n l h. balance) tt)
+    (either Account (eqb k 2) _ _ (ranged (TakesIf Account) _ Unfit x 1 A.amountMost (λ n l h. deposit l h) tt)
+    (either Account (eqb k 3) _ _ (ranged (TakesIf Account) _ Unfit x 1 A.amountMost (λ n l h. withdraw l h) tt) tt))
 takes-if Register k x =
-    either Register (eqb k 4) _ _ (ranged (TakesIf Register) (fits (λ n. O.Register Read)) x 0 0 (λ n l h. read) tt)
-    (either Register (eqb k 5) _ _ (ranged (TakesIf Register) (fits (λ n. O.Register (Write n))) x 0 R.valueMost (λ n l h. write h) tt) tt)
+    either Register (eqb k 4) _ _ (ranged (TakesIf Register) _ Unfit x 0 0 (λ n l h. read) tt)
+    (either Register (eqb k 5) _ _ (ranged (TakesIf Register) _ Unfit x 0 R.valueMost (λ n l h. write h) tt) tt)
 takes-if Unknown k x = tt
 
 pub decoded-takes : (kind : Kind) (k : ℕ) (x : ℤ) (o : Operation) → decodeOf kind k x ≡ Fit o → Takes kind o
 decoded-takes kind k x o e = rw e at (takes-if kind k x)
 
--- a deposit that is taken fits, whatever the other states
+-- a deposit that is taken fits
 pub takes-room : (kind : Kind) (o : Operation) (s : State) → Takes kind o → Bounded s → Room s o
 takes-room kind o (S.Account a) balance h = tt
 takes-room kind o (S.Account a) (deposit l m) h = omega arith
@@ -67,32 +70,52 @@ takes-room kind o (S.Account a) (write m) h = tt
 takes-room kind o (S.Register v) t h = tt
 
 -- the answer's numbers are read back as that answer
-abbrev pub Recalls : State → Operation → Type 0
-Recalls s o = recallOf o (numbersOf (stepOf s o .outcome) .a) (numbersOf (stepOf s o .outcome) .b) ≡ Given (stepOf s o .outcome)
-
-pub takes-recalled : (kind : Kind) (o : Operation) (s : State) → StateOf kind s → Takes kind o → Bounded s → Recalls s o
+pub takes-recalled : (kind : Kind) (o : Operation) (s : State) → StateOf kind s → Takes kind o → Bounded s
+    → recallOf o (numbersOf (stepOf s o .outcome) .a) (numbersOf (stepOf s o .outcome) .b) ≡ Given (stepOf s o .outcome)
 takes-recalled kind o s (account {n}) balance h = rw (le-leb 0 n (omega arith), le-leb n A.balanceMost h)
 takes-recalled kind o s account (deposit l m) h = refl
 takes-recalled kind o s (account {n}) (withdraw {n = m} l k) h = ⊎-elim (λ e. rw (le-leb m n e)) (λ e. rw (lt-leb m n e)) (le-or m n)
 takes-recalled kind o s (register {n} b) read h = rw (le-leb 0 n (omega arith), le-leb n R.valueMost h)
 takes-recalled kind o s (register b) (write m) h = refl
 
--- the object stays in the states of its kind
-pub takes-has : (kind : Kind) (o : Operation) (s : State) → StateOf kind s → Takes kind o → StateOf kind (stepOf s o .state)
-takes-has kind o s account balance = account
-takes-has kind o s account (deposit l m) = account
-takes-has kind o s (account {n}) (withdraw {n = m} l k) = ⊎-elim (λ e. rw (le-leb m n e) account) (λ e. rw (lt-leb m n e) account) (le-or m n)
-takes-has kind o s (register b) read = register b
-takes-has kind o s (register b) (write m) = register m
+-- a state of the kind, after at most so many deposits of the largest size
+pub data Grown : Kind → ℕ → State → Type 0 where
+  upto : (n k : ℕ) → n ≤ A.openingMost + k * A.amountMost → Grown Account k (A.accountOf n)
+  kept : (n k : ℕ) → n ≤ R.valueMost → Grown Register k (R.registerOf n)
 
-abbrev OpensIf : Kind → Opening → Type 0
-OpensIf kind (At s) = StateOf kind s × Bounded s
-OpensIf kind Refused = Unit {0}
+-- a step keeps the kind's states, and grows by one deposit at most
+pub takes-grown : (kind : Kind) (o : Operation) (s : State) (k : ℕ) → Grown kind k s → Takes kind o → Grown kind (suc k) (stepOf s o .state)
+takes-grown kind o s i (upto n k h) balance = upto n (suc k) (omega arith)
+takes-grown kind o s i (upto n k h) (deposit {n = m} l r) = upto (n + m) (suc k) (omega arith)
+takes-grown kind o s i (upto n k h) (withdraw {n = m} l r) =
+    ⊎-elim (λ e. rw (le-leb m n e) (upto (n - m) (suc k) (omega arith))) (λ e. rw (lt-leb m n e) (upto n (suc k) (omega arith))) (le-or m n)
+takes-grown kind o s i (kept n k h) read = kept n (suc k) h
+takes-grown kind o s i (kept n k h) (write {n = m} r) = kept m (suc k) r
 
-opens-if : (kind : Kind) (x : ℤ) → OpensIf kind (openedOf kind x)
-opens-if Account x = ranged (OpensIf Account) (opens A.holding) x 0 A.openingMost (λ n l h. (account, omega arith)) tt
-opens-if Register x = ranged (OpensIf Register) (opens R.holding) x 0 R.valueMost (λ n l h. (register h, h)) tt
-opens-if Unknown x = tt
+pub grown-has : (kind : Kind) (k : ℕ) (s : State) → Grown kind k s → k ≤ 1024 → StateOf kind s × Bounded s
+grown-has kind i s (upto n k h) l = (account, omega arith)
+grown-has kind i s (kept n k h) l = (register h, h)
 
-pub opened-has : (kind : Kind) (x : ℤ) (s : State) → openedOf kind x ≡ At s → StateOf kind s × Bounded s
-opened-has kind x s e = rw e at (opens-if kind x)
+-- an opening has grown by nothing
+abbrev GrownIf : Kind → Opening → Type 0
+GrownIf kind (At s) = Grown kind 0 s
+GrownIf kind Refused = Unit {0}
+
+opens-grown : (kind : Kind) (x : ℤ) → GrownIf kind (openedOf kind x)
+opens-grown Account x = ranged (GrownIf Account) _ Refused x 0 A.openingMost (λ n l h. upto n 0 (omega arith)) tt
+opens-grown Register x = ranged (GrownIf Register) _ Refused x 0 R.valueMost (λ n l h. kept n 0 h) tt
+opens-grown Unknown x = tt
+
+pub opened-grown : (kind : Kind) (x : ℤ) (s : State) → openedOf kind x ≡ At s → Grown kind 0 s
+opened-grown kind x s e = rw e at (opens-grown kind x)
+
+-- operations that `decode` lets through, whatever the replies
+pub data Taken (kind : Kind) : List (Op (objectOf kind)) → Type 0 where
+  none : Taken kind []
+  more : {p : Op (objectOf kind)} {l : List (Op (objectOf kind))} → Takes kind (p .ask) → Taken kind l → Taken kind (p ∷ l)
+
+pub run-grown : (kind : Kind) (l : List (Op (objectOf kind))) (s : State) (k : ℕ) → Taken kind l → Grown kind k s → Grown kind (k + length l) (run (objectOf kind) s l)
+run-grown kind l s k none g = rw add-zero g
+run-grown kind l s k (more {p} {l = rest} t ts) g =
+    let e : k + suc (length rest) ≡ suc k + length rest = omega arith in
+    rw e (run-grown kind rest (stepOf s (p .ask) .state) (suc k) ts (takes-grown kind (p .ask) s k g t))

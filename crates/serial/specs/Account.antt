@@ -1,5 +1,5 @@
 -- A, account. Source: document 01, "Objects and numbers" and "The conflict table".
-use Prim.Native.Nat.{ℕ, _+_, _-_}
+use Prim.Native.Nat.{ℕ, _+_, _-_, _<_, _^_}
 use mathlib.Core.Bool.{cond}
 use mathlib.Core.List.{List, [], _∷_}
 use lib.IntN.{ℤ}
@@ -16,18 +16,19 @@ use Rattle.serial.specs.declared.Stepped.{Stepped}
 use Rattle.serial.specs.declared.outcome.Recalled.{Recalled}
 use Rattle.serial.specs.declared.outcome.Recalled.the-variants.{Unshaped}
 use Rattle.serial.specs.declared.Opening.{Opening}
+use Rattle.serial.specs.declared.Opening.the-variants.{At, Refused}
 use Rattle.serial.specs.declared.Decoded.{Decoded}
-use Rattle.serial.specs.declared.Decoded.the-variants.{Unfit}
+use Rattle.serial.specs.declared.Decoded.the-variants.{Fit, Unfit}
 use Rattle.serial.specs.declared.Class.{Class}
 use Rattle.serial.specs.declared.Class.the-variants.{Row, None}
 use Rattle.serial.specs.declared.Rule.{Rule}
 use Rattle.serial.specs.declared.Rule.the-variants.{Pass, Conflict}
-use Rattle.serial.specs.Range.{withinOf, opens, fits}
+use Rattle.serial.specs.Range.{inRange}
 use Rattle.serial.specs.Outcome.{ok, fail, value, withValue, withoutValue}
 
 -- the account with this balance
-abbrev pub holding : ℕ → State
-holding n = S.Account (record { balance = n })
+abbrev pub accountOf : ℕ → State
+accountOf n = S.Account (record { balance = n })
 
 -- openings 0 to 1,000,000,000, amounts 1 to 1,000,000
 abbrev pub openingMost : ℕ
@@ -41,22 +42,28 @@ abbrev pub balanceMost : ℕ
 balanceMost = 2_024_000_000
 
 abbrev pub openedOf : ℤ → Opening
-openedOf opening = opens holding (withinOf opening 0 openingMost)
+openedOf opening = inRange opening 0 openingMost (λ n. At (accountOf n)) Refused
 
 -- 1 balance (argument 0), 2 deposit and 3 withdraw (argument 1 to 1,000,000)
 abbrev pub decodeOf : ℕ → ℤ → Decoded
 decodeOf operation argument =
-    cond (eqb operation 1) (fits (λ n. O.Account Balance) (withinOf argument 0 0))
-    (cond (eqb operation 2) (fits (λ n. O.Account (Deposit n)) (withinOf argument 1 amountMost))
-    (cond (eqb operation 3) (fits (λ n. O.Account (Withdraw n)) (withinOf argument 1 amountMost)) Unfit))
+    cond (eqb operation 1) (inRange argument 0 0 (λ n. Fit (O.Account Balance)) Unfit)
+    (cond (eqb operation 2) (inRange argument 1 amountMost (λ n. Fit (O.Account (Deposit n))) Unfit)
+    (cond (eqb operation 3) (inRange argument 1 amountMost (λ n. Fit (O.Account (Withdraw n))) Unfit) Unfit))
 
 -- a withdrawal succeeds if the balance is at least the amount; otherwise it answers FAIL and changes nothing
 abbrev pub stepOf : Account → AccountOperation → Stepped
 stepOf account Balance = record { state = S.Account account; outcome = Value (account .balance) }
-stepOf account (Deposit n) = record { state = holding (account .balance + n); outcome = Ok }
+stepOf account (Deposit n) = record { state = accountOf (account .balance + n); outcome = Ok }
 stepOf account (Withdraw n) =
-    cond (leb n (account .balance)) (record { state = holding (account .balance - n); outcome = Ok })
+    cond (leb n (account .balance)) (record { state = accountOf (account .balance - n); outcome = Ok })
     (record { state = S.Account account; outcome = Fail })
+
+-- a deposit leaves a balance that 32 bits hold
+abbrev pub Room : Account → AccountOperation → Type 0
+Room account Balance = Unit {0}
+Room account (Deposit n) = account .balance + n < 2 ^ 32
+Room account (Withdraw n) = Unit {0}
 
 -- the outcomes that an operation allows, by a and b
 abbrev pub recallOf : AccountOperation → ℕ → ℤ → Recalled

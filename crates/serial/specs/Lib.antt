@@ -2,5 +2,5 @@ pub mod Range
 pub mod Outcome
 pub mod Account
 pub mod Register
-pub mod Serial
+pub mod Kinds
 pub mod Object

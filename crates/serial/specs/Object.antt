@@ -7,14 +7,14 @@ use Rattle.serial.specs.declared.State.{State}
 use Rattle.serial.specs.declared.Operation.{Operation}
 use Rattle.serial.specs.declared.outcome.Outcome.{Outcome}
 use Rattle.serial.specs.declared.Answered.{Answered}
-use Rattle.serial.specs.Serial.{stepOf}
+use Rattle.serial.specs.Kinds.{stepOf}
 use Rattle.serial.specs.Account as A
 use Rattle.serial.specs.Register as R
 
 -- all whole numbers from 0 for an account, and 0 to 1,000,000,000 for a register
 pub data StateOf : Kind → State → Type 0 where
-  account : {n : ℕ} → StateOf Account (A.holding n)
-  register : {n : ℕ} → n ≤ R.valueMost → StateOf Register (R.holding n)
+  account : {n : ℕ} → StateOf Account (A.accountOf n)
+  register : {n : ℕ} → n ≤ R.valueMost → StateOf Register (R.registerOf n)
 
 abbrev pub objectOf : Kind → Serial
 objectOf kind = record {

@@ -16,35 +16,36 @@ use Rattle.serial.specs.declared.Stepped.{Stepped}
 use Rattle.serial.specs.declared.outcome.Recalled.{Recalled}
 use Rattle.serial.specs.declared.outcome.Recalled.the-variants.{Unshaped}
 use Rattle.serial.specs.declared.Opening.{Opening}
+use Rattle.serial.specs.declared.Opening.the-variants.{At, Refused}
 use Rattle.serial.specs.declared.Decoded.{Decoded}
-use Rattle.serial.specs.declared.Decoded.the-variants.{Unfit}
+use Rattle.serial.specs.declared.Decoded.the-variants.{Fit, Unfit}
 use Rattle.serial.specs.declared.Class.{Class}
 use Rattle.serial.specs.declared.Class.the-variants.{Row, None}
 use Rattle.serial.specs.declared.Rule.{Rule}
 use Rattle.serial.specs.declared.Rule.the-variants.{Pass, Conflict}
-use Rattle.serial.specs.Range.{withinOf, opens, fits}
+use Rattle.serial.specs.Range.{inRange}
 use Rattle.serial.specs.Outcome.{ok, value, withValue, withoutValue}
 
 -- the register with this value
-abbrev pub holding : ℕ → State
-holding n = S.Register (record { value = n })
+abbrev pub registerOf : ℕ → State
+registerOf n = S.Register (record { value = n })
 
 -- opened with, written and read: 0 to 1,000,000,000
 abbrev pub valueMost : ℕ
 valueMost = 1_000_000_000
 
 abbrev pub openedOf : ℤ → Opening
-openedOf opening = opens holding (withinOf opening 0 valueMost)
+openedOf opening = inRange opening 0 valueMost (λ n. At (registerOf n)) Refused
 
 -- 4 read (argument 0), 5 write (argument 0 to 1,000,000,000)
 abbrev pub decodeOf : ℕ → ℤ → Decoded
 decodeOf operation argument =
-    cond (eqb operation 4) (fits (λ n. O.Register Read) (withinOf argument 0 0))
-    (cond (eqb operation 5) (fits (λ n. O.Register (Write n)) (withinOf argument 0 valueMost)) Unfit)
+    cond (eqb operation 4) (inRange argument 0 0 (λ n. Fit (O.Register Read)) Unfit)
+    (cond (eqb operation 5) (inRange argument 0 valueMost (λ n. Fit (O.Register (Write n))) Unfit) Unfit)
 
 abbrev pub stepOf : Register → RegisterOperation → Stepped
 stepOf register Read = record { state = S.Register register; outcome = Value (register .value) }
-stepOf register (Write n) = record { state = holding n; outcome = Ok }
+stepOf register (Write n) = record { state = registerOf n; outcome = Ok }
 
 -- the outcomes that an operation allows, by a and b
 abbrev pub recallOf : RegisterOperation → ℕ → ℤ → Recalled

@@ -1,7 +1,7 @@
 // The account: its limits, its opening state, its operations and its conflict table.
 ghost use mathlib.Core.Path.{_≡_};
-ghost use Rattle.serial.specs.Account.{openedOf, decodeOf, stepOf, recallOf, classOf, table};
-ghost use Rattle.serial.specs.Serial.{entry, Room};
+ghost use Rattle.serial.specs.Account.{openedOf, decodeOf, stepOf, Room, recallOf, classOf, table};
+ghost use Rattle.serial.specs.Kinds.{entry};
 use crate::Class;
 use crate::Decoded;
 use crate::Opening;
@@ -32,36 +32,43 @@ impl Account {
 
     pub const OPENING_MOST: u32 = 1_000_000_000;
 
-    // Operations.
+    // The numbers of its operations.
     pub const BALANCE: u32 = 1;
 
     pub const DEPOSIT: u32 = 2;
 
     pub const WITHDRAW: u32 = 3;
 
-    // Arguments.
     pub const NO_ARGUMENT: u32 = 0;
 
     pub const AMOUNT_LEAST: u32 = 1;
 
     pub const AMOUNT_MOST: u32 = 1_000_000;
 
-    // Answers: up to the largest opening and 1,024 deposits of the largest size.
-    pub const BALANCE_LEAST: u32 = 0;
+    // What a balance answers: up to the largest opening and 1,024 deposits of the largest size.
+    pub const ANSWER_LEAST: u32 = 0;
 
-    pub const BALANCE_MOST: u32 = 2_024_000_000;
+    pub const ANSWER_MOST: u32 = 2_024_000_000;
 
-    pub const CLASSES: usize = 4;
+    // The rows and columns of its table.
+    const BALANCE_ROW: usize = 0;
 
-    // Rows and columns: balance, deposit, withdraw OK, withdraw FAIL.
-    pub const TABLE: [[Rule; Account::CLASSES]; Account::CLASSES] = [
+    const DEPOSIT_ROW: usize = 1;
+
+    const DRAWN_ROW: usize = 2;
+
+    const SHORT_ROW: usize = 3;
+
+    const ROWS: usize = 4;
+
+    const TABLE: [[Rule; Account::ROWS]; Account::ROWS] = [
         [Rule::Pass, Rule::Conflict, Rule::Conflict, Rule::Pass],
         [Rule::Conflict, Rule::Pass, Rule::Pass, Rule::Conflict],
         [Rule::Conflict, Rule::Pass, Rule::Conflict, Rule::Pass],
         [Rule::Pass, Rule::Conflict, Rule::Pass, Rule::Pass],
     ];
 
-    pub fn opened(opening: i64) -> Opening
+    pub(crate) fn opened(opening: i64) -> Opening
         ensures { λ r. ⌜ r ≡ openedOf opening ⌝ }
     {
         match within(opening, Account::OPENING_LEAST, Account::OPENING_MOST) {
@@ -70,7 +77,7 @@ impl Account {
         }
     }
 
-    pub fn decode(operation: u32, argument: i64) -> Decoded
+    pub(crate) fn decode(operation: u32, argument: i64) -> Decoded
         ensures { λ r. ⌜ r ≡ decodeOf operation argument ⌝ }
     {
         match operation {
@@ -98,8 +105,8 @@ impl Account {
         }
     }
 
-    pub fn step(self, operation: AccountOperation) -> Stepped
-        requires { ⌜ Room (State.Account self) (Operation.Account operation) ⌝ }
+    pub(crate) fn step(self, operation: AccountOperation) -> Stepped
+        requires { ⌜ Room self operation ⌝ }
         ensures { λ r. ⌜ r ≡ stepOf self operation ⌝ }
     {
         let balance = self.balance;
@@ -132,12 +139,12 @@ impl Account {
         }
     }
 
-    pub fn recall(operation: AccountOperation, a: u32, b: i64) -> Recalled
+    pub(crate) fn recall(operation: AccountOperation, a: u32, b: i64) -> Recalled
         ensures { λ r. ⌜ r ≡ recallOf operation a b ⌝ }
     {
         match operation {
             AccountOperation::Balance => match a {
-                Numbers::VALUE => with_value(b, Account::BALANCE_LEAST, Account::BALANCE_MOST),
+                Numbers::VALUE => with_value(b, Account::ANSWER_LEAST, Account::ANSWER_MOST),
                 _ => Recalled::Unshaped,
             },
             AccountOperation::Deposit(_) => match a {
@@ -152,34 +159,34 @@ impl Account {
         }
     }
 
-    pub fn class_of(operation: AccountOperation, outcome: Outcome) -> Class
+    pub(crate) fn class_of(operation: AccountOperation, outcome: Outcome) -> Class
         ensures { λ r. ⌜ r ≡ classOf operation outcome ⌝ }
     {
         match operation {
             AccountOperation::Balance => match outcome {
-                Outcome::Value(_) => Class::Row(0),
+                Outcome::Value(_) => Class::Row(Account::BALANCE_ROW),
                 Outcome::Ok => Class::None,
                 Outcome::Fail => Class::None,
             },
             AccountOperation::Deposit(_) => match outcome {
-                Outcome::Ok => Class::Row(1),
+                Outcome::Ok => Class::Row(Account::DEPOSIT_ROW),
                 Outcome::Fail => Class::None,
                 Outcome::Value(_) => Class::None,
             },
             AccountOperation::Withdraw(_) => match outcome {
-                Outcome::Ok => Class::Row(2),
-                Outcome::Fail => Class::Row(3),
+                Outcome::Ok => Class::Row(Account::DRAWN_ROW),
+                Outcome::Fail => Class::Row(Account::SHORT_ROW),
                 Outcome::Value(_) => Class::None,
             },
         }
     }
 
-    pub fn rule_of(asking: usize, held: usize) -> Rule
-        ensures { λ r. ⌜ r ≡ entry table asking held ⌝ }
+    pub(crate) fn rule_of(row: usize, column: usize) -> Rule
+        ensures { λ r. ⌜ r ≡ entry table row column ⌝ }
     {
-        if asking < Account::CLASSES {
-            if held < Account::CLASSES {
-                return Account::TABLE[asking][held];
+        if row < Account::ROWS {
+            if column < Account::ROWS {
+                return Account::TABLE[row][column];
             }
         }
         Rule::Conflict

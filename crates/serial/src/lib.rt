@@ -1,12 +1,12 @@
 // The serial objects of document 01: what each kind takes, what an operation does to a state and answers, and which answers conflict.
 // A kind's own part is in its own file; here the kinds are told apart.
-pub mod account;
-pub mod outcome;
+mod account;
+mod outcome;
 mod range;
-pub mod register;
+mod register;
 
 ghost use mathlib.Core.Path.{_≡_};
-ghost use Rattle.serial.specs.Serial.{kindOf, openedOf, decodeOf, stepOf, Room, recallOf, classOf, tableOf, entry, conflictOf};
+ghost use Rattle.serial.specs.Kinds.{kindOf, openedOf, decodeOf, stepOf, Room, recallOf, classOf, tableOf, entry, conflictOf};
 use account::Account;
 use account::AccountOperation;
 pub use outcome::Numbers;
@@ -129,11 +129,11 @@ pub fn recall(operation: Operation, a: u32, b: i64) -> Recalled
     }
 }
 
-fn class_of(kind: Kind, p: Answered) -> Class
-    ensures { λ r. ⌜ r ≡ classOf kind (p .operation) (p .outcome) ⌝ }
+fn class_of(kind: Kind, answered: Answered) -> Class
+    ensures { λ r. ⌜ r ≡ classOf kind (answered .operation) (answered .outcome) ⌝ }
 {
-    let operation = p.operation;
-    let outcome = p.outcome;
+    let operation = answered.operation;
+    let outcome = answered.outcome;
     match kind {
         Kind::Account => match operation {
             Operation::Account(o) => Account::class_of(o, outcome),
@@ -147,27 +147,27 @@ fn class_of(kind: Kind, p: Answered) -> Class
     }
 }
 
-fn rule_of(kind: Kind, asking: usize, held: usize) -> Rule
-    ensures { λ r. ⌜ r ≡ entry (tableOf kind) asking held ⌝ }
+fn rule_of(kind: Kind, row: usize, column: usize) -> Rule
+    ensures { λ r. ⌜ r ≡ entry (tableOf kind) row column ⌝ }
 {
     match kind {
-        Kind::Account => Account::rule_of(asking, held),
-        Kind::Register => Register::rule_of(asking, held),
+        Kind::Account => Account::rule_of(row, column),
+        Kind::Register => Register::rule_of(row, column),
         Kind::Unknown => Rule::Conflict,
     }
 }
 
 // Whether two answers on an object of the kind conflict. What is no answer of the kind conflicts with everything.
-pub fn conflicts(kind: Kind, p: Answered, q: Answered) -> bool
-    ensures { λ r. ⌜ r ≡ conflictOf kind p q ⌝ }
+pub fn conflicts(kind: Kind, asking: Answered, held: Answered) -> bool
+    ensures { λ r. ⌜ r ≡ conflictOf kind asking held ⌝ }
 {
-    let Class::Row(a) = class_of(kind, p) else {
+    let Class::Row(row) = class_of(kind, asking) else {
         return true;
     };
-    let Class::Row(b) = class_of(kind, q) else {
+    let Class::Row(column) = class_of(kind, held) else {
         return true;
     };
-    match rule_of(kind, a, b) {
+    match rule_of(kind, row, column) {
         Rule::Pass => false,
         Rule::Conflict => true,
     }

@@ -17,14 +17,15 @@ pub struct Numbers {
 }
 
 impl Numbers {
-    // a
+    // The values of a.
     pub const FAIL: u32 = 0;
 
     pub const OK: u32 = 1;
 
     pub const VALUE: u32 = 2;
-    // b, where there is no value
-    pub const NONE: i64 = 0;
+
+    // The b of an outcome that has no value.
+    pub const NO_VALUE: u32 = 0;
 }
 
 // The outcome that a and b stand for, where the operation allows it.
@@ -39,11 +40,11 @@ pub fn numbers_of(outcome: Outcome) -> Numbers
     match outcome {
         Outcome::Ok => Numbers {
             a: Numbers::OK,
-            b: Numbers::NONE,
+            b: Numbers::NO_VALUE as i64,
         },
         Outcome::Fail => Numbers {
             a: Numbers::FAIL,
-            b: Numbers::NONE,
+            b: Numbers::NO_VALUE as i64,
         },
         Outcome::Value(v) => Numbers {
             a: Numbers::VALUE,
@@ -53,7 +54,7 @@ pub fn numbers_of(outcome: Outcome) -> Numbers
 }
 
 // A value from low to high, as an outcome.
-pub fn with_value(b: i64, low: u32, high: u32) -> Recalled
+pub(crate) fn with_value(b: i64, low: u32, high: u32) -> Recalled
     ensures { λ r. ⌜ r ≡ withValue b low high ⌝ }
 {
     match within(b, low, high) {
@@ -63,10 +64,10 @@ pub fn with_value(b: i64, low: u32, high: u32) -> Recalled
 }
 
 // An outcome that has no value: b is 0.
-pub fn without_value(outcome: Outcome, b: i64) -> Recalled
+pub(crate) fn without_value(outcome: Outcome, b: i64) -> Recalled
     ensures { λ r. ⌜ r ≡ withoutValue outcome b ⌝ }
 {
-    match within(b, 0, 0) {
+    match within(b, Numbers::NO_VALUE, Numbers::NO_VALUE) {
         Ranged::In(_) => Recalled::Given(outcome),
         Ranged::Out => Recalled::Unshaped,
     }

@@ -1,7 +1,7 @@
 // The register: its limits, its opening state, its operations and its conflict table.
 ghost use mathlib.Core.Path.{_≡_};
 ghost use Rattle.serial.specs.Register.{openedOf, decodeOf, stepOf, recallOf, classOf, table};
-ghost use Rattle.serial.specs.Serial.{entry};
+ghost use Rattle.serial.specs.Kinds.{entry};
 use crate::Class;
 use crate::Decoded;
 use crate::Opening;
@@ -27,27 +27,31 @@ pub enum RegisterOperation {
 }
 
 impl Register {
-    // Operations.
+    // The numbers of its operations.
     pub const READ: u32 = 4;
 
     pub const WRITE: u32 = 5;
 
     pub const NO_ARGUMENT: u32 = 0;
 
-    // Openings, what is written and what is read.
+    // What it opens with, what is written and what is read.
     pub const VALUE_LEAST: u32 = 0;
 
     pub const VALUE_MOST: u32 = 1_000_000_000;
 
-    pub const CLASSES: usize = 2;
+    // The rows and columns of its table.
+    const READ_ROW: usize = 0;
 
-    // Rows and columns: read, write.
-    pub const TABLE: [[Rule; Register::CLASSES]; Register::CLASSES] = [
+    const WRITE_ROW: usize = 1;
+
+    const ROWS: usize = 2;
+
+    const TABLE: [[Rule; Register::ROWS]; Register::ROWS] = [
         [Rule::Pass, Rule::Conflict],
         [Rule::Conflict, Rule::Conflict],
     ];
 
-    pub fn opened(opening: i64) -> Opening
+    pub(crate) fn opened(opening: i64) -> Opening
         ensures { λ r. ⌜ r ≡ openedOf opening ⌝ }
     {
         match within(opening, Register::VALUE_LEAST, Register::VALUE_MOST) {
@@ -56,7 +60,7 @@ impl Register {
         }
     }
 
-    pub fn decode(operation: u32, argument: i64) -> Decoded
+    pub(crate) fn decode(operation: u32, argument: i64) -> Decoded
         ensures { λ r. ⌜ r ≡ decodeOf operation argument ⌝ }
     {
         match operation {
@@ -72,7 +76,7 @@ impl Register {
         }
     }
 
-    pub fn step(self, operation: RegisterOperation) -> Stepped
+    pub(crate) fn step(self, operation: RegisterOperation) -> Stepped
         ensures { λ r. ⌜ r ≡ stepOf self operation ⌝ }
     {
         match operation {
@@ -87,7 +91,7 @@ impl Register {
         }
     }
 
-    pub fn recall(operation: RegisterOperation, a: u32, b: i64) -> Recalled
+    pub(crate) fn recall(operation: RegisterOperation, a: u32, b: i64) -> Recalled
         ensures { λ r. ⌜ r ≡ recallOf operation a b ⌝ }
     {
         match operation {
@@ -102,29 +106,29 @@ impl Register {
         }
     }
 
-    pub fn class_of(operation: RegisterOperation, outcome: Outcome) -> Class
+    pub(crate) fn class_of(operation: RegisterOperation, outcome: Outcome) -> Class
         ensures { λ r. ⌜ r ≡ classOf operation outcome ⌝ }
     {
         match operation {
             RegisterOperation::Read => match outcome {
-                Outcome::Value(_) => Class::Row(0),
+                Outcome::Value(_) => Class::Row(Register::READ_ROW),
                 Outcome::Ok => Class::None,
                 Outcome::Fail => Class::None,
             },
             RegisterOperation::Write(_) => match outcome {
-                Outcome::Ok => Class::Row(1),
+                Outcome::Ok => Class::Row(Register::WRITE_ROW),
                 Outcome::Fail => Class::None,
                 Outcome::Value(_) => Class::None,
             },
         }
     }
 
-    pub fn rule_of(asking: usize, held: usize) -> Rule
-        ensures { λ r. ⌜ r ≡ entry table asking held ⌝ }
+    pub(crate) fn rule_of(row: usize, column: usize) -> Rule
+        ensures { λ r. ⌜ r ≡ entry table row column ⌝ }
     {
-        if asking < Register::CLASSES {
-            if held < Register::CLASSES {
-                return Register::TABLE[asking][held];
+        if row < Register::ROWS {
+            if column < Register::ROWS {
+                return Register::TABLE[row][column];
             }
         }
         Rule::Conflict

@@ -6,8 +6,8 @@ use Rattle.serial.proofs.conflicts.Tie as tie
 class-of-requires : tie.Need-class-of-requires
 class-of-requires c κs = search needs
 
-enum-known-a : tie.Need-enum-known-a
-enum-known-a c = search needs
+enum-known-row : tie.Need-enum-known-row
+enum-known-row c = search needs
 
 enum-told : tie.Need-enum-told
 enum-told c = search needs
@@ -18,8 +18,8 @@ returns c = rw (sym (c .before .before .class-of .ensures) ∙ c .enum-told .giv
 class-of-requires-2 : tie.Need-class-of-requires-2
 class-of-requires-2 c κs = search needs
 
-enum-known-b : tie.Need-enum-known-b
-enum-known-b c = search needs
+enum-known-column : tie.Need-enum-known-column
+enum-known-column c = search needs
 
 enum-told-2 : tie.Need-enum-told-2
 enum-told-2 c = search needs
@@ -27,7 +27,7 @@ enum-told-2 c = search needs
 returns-2 : tie.Need-returns-2
 returns-2 c =
     let p = c .before .before .before in
-    rw (sym (p .before .before .before .class-of .ensures) ∙ p .before .a .given .1, sym (c .before .before .class-of2 .ensures) ∙ c .enum-told2 .given .1)
+    rw (sym (p .before .before .before .class-of .ensures) ∙ p .before .row .given .1, sym (c .before .before .class-of2 .ensures) ∙ c .enum-told2 .given .1)
 
 rule-of-requires : tie.Need-rule-of-requires
 rule-of-requires c κs = search needs
@@ -43,8 +43,8 @@ returns-3 c =
     let q = c .before .before .before in
     let p = q .before .before .before .before in
     rw (
-      sym (p .before .before .before .class-of .ensures) ∙ p .before .a .given .1,
-      sym (q .before .before .before .class-of2 .ensures) ∙ q .before .b .given .1,
+      sym (p .before .before .before .class-of .ensures) ∙ p .before .row .given .1,
+      sym (q .before .before .before .class-of2 .ensures) ∙ q .before .column .given .1,
       sym (c .before .before .rule-of .ensures) ∙ c .enum-told3 .given .1,
     )
 
@@ -53,8 +53,8 @@ returns-4 c =
     let q = c .before .before .before in
     let p = q .before .before .before .before in
     rw (
-      sym (p .before .before .before .class-of .ensures) ∙ p .before .a .given .1,
-      sym (q .before .before .before .class-of2 .ensures) ∙ q .before .b .given .1,
+      sym (p .before .before .before .class-of .ensures) ∙ p .before .row .given .1,
+      sym (q .before .before .before .class-of2 .ensures) ∙ q .before .column .given .1,
       sym (c .before .before .rule-of .ensures) ∙ c .enum-told4 .given .1,
     )
 
@@ -63,11 +63,11 @@ conflicts-spec =
     tie.close
     (tie.spec
     class-of-requires
-    enum-known-a
+    enum-known-row
     enum-told
     returns
     class-of-requires-2
-    enum-known-b
+    enum-known-column
     enum-told-2
     returns-2
     rule-of-requires

@@ -9,14 +9,20 @@ use Rattle.serial.proofs.outcome.numbers_of.Tie as tie
 enum-told : tie.Need-enum-told
 enum-told c = search needs
 
+cast-t4 : tie.Need-cast-t4
+cast-t4 c = search needs
+
 enum-told-2 : tie.Need-enum-told-2
 enum-told-2 c = search needs
+
+cast-t5 : tie.Need-cast-t5
+cast-t5 c = search needs
 
 enum-known-outcome : tie.Need-enum-known-outcome
 enum-known-outcome c = search needs
 
-cast-t4 : tie.Need-cast-t4
-cast-t4 c = search needs
+cast-t6 : tie.Need-cast-t6
+cast-t6 c = search needs
 
 returns : tie.Need-returns
 returns c = rw (c .enum-told .given .1)
@@ -33,4 +39,13 @@ returns-3 c =
 pub numbers-of-spec : {M : Type 1} → statement M
 numbers-of-spec =
     tie.close
-    (tie.spec enum-told enum-told-2 enum-known-outcome cast-t4 returns returns-2 returns-3)
+    (tie.spec
+    enum-told
+    cast-t4
+    enum-told-2
+    cast-t5
+    enum-known-outcome
+    cast-t6
+    returns
+    returns-2
+    returns-3)

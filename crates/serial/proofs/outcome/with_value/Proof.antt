@@ -1,5 +1,5 @@
-use Rattle.serial.proofs.Within.{told}
-use Rattle.serial.specs.Outcome.{gives}
+use Rattle.serial.proofs.Within.{told-in, told-out}
+use Rattle.serial.specs.declared.outcome.Recalled.the-variants.{Given, Unshaped}
 use Rattle.serial.specs.declared.outcome.Outcome.the-variants.{Value}
 use borrow.Author.Needs.{needs}
 use Rattle.serial.proofs.outcome.with_value.Statement.{statement}
@@ -15,10 +15,14 @@ enum-told : tie.Need-enum-told
 enum-told c = search needs
 
 returns : tie.Need-returns
-returns c = told (gives Value) (c .before .before .before .before .args .low) (c .before .before .before .before .args .high) (c .before .v .given .1) (c .before .before .before .within .ensures) (c .before .before .before .before .fits .b)
+returns c =
+    let a = c .before .before .before .before .args in
+    told-in (λ v. Given (Value v)) Unshaped (a .low) (a .high) (c .before .before .before .within .ensures) (c .before .before .before .before .fits .b) (c .before .v .given .1)
 
 returns-2 : tie.Need-returns-2
-returns-2 c = told (gives Value) (c .before .before .before .args .low) (c .before .before .before .args .high) (c .enum-told .given .1) (c .before .before .within .ensures) (c .before .before .before .fits .b)
+returns-2 c =
+    let a = c .before .before .before .args in
+    told-out (λ v. Given (Value v)) Unshaped (a .low) (a .high) (c .before .before .within .ensures) (c .before .before .before .fits .b) (c .enum-told .given .1)
 
 pub with-value-spec : {M : Type 1} → statement M
 with-value-spec = tie.close (tie.spec within-requires enum-known-v enum-told returns returns-2)

@@ -1,5 +1,5 @@
-use Rattle.serial.proofs.Within.{told}
-use Rattle.serial.specs.Outcome.{gives}
+use Rattle.serial.proofs.Within.{told-in, told-out}
+use Rattle.serial.specs.declared.outcome.Recalled.the-variants.{Given, Unshaped}
 use borrow.Author.Needs.{needs}
 use Rattle.serial.proofs.outcome.without_value.Statement.{statement}
 use Rattle.serial.proofs.outcome.without_value.Tie as tie
@@ -14,10 +14,12 @@ enum-told-2 : tie.Need-enum-told-2
 enum-told-2 c = search needs
 
 returns : tie.Need-returns
-returns c = told (gives (λ n. c .before .before .before .args .outcome)) 0 0 (c .enum-told .given .1) (c .before .before .within .ensures) (c .before .before .before .fits .b)
+returns c =
+    told-in (λ n. Given (c .before .before .before .args .outcome)) Unshaped 0 0 (c .before .before .within .ensures) (c .before .before .before .fits .b) (c .enum-told .given .1)
 
 returns-2 : tie.Need-returns-2
-returns-2 c = told (gives (λ n. c .before .before .before .args .outcome)) 0 0 (c .enum-told2 .given .1) (c .before .before .within .ensures) (c .before .before .before .fits .b)
+returns-2 c =
+    told-out (λ n. Given (c .before .before .before .args .outcome)) Unshaped 0 0 (c .before .before .within .ensures) (c .before .before .before .fits .b) (c .enum-told2 .given .1)
 
 pub without-value-spec : {M : Type 1} → statement M
 without-value-spec = tie.close (tie.spec within-requires enum-told enum-told-2 returns returns-2)

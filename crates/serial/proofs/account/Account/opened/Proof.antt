@@ -1,6 +1,6 @@
-use Rattle.serial.proofs.Within.{told}
-use Rattle.serial.specs.Range.{opens}
-use Rattle.serial.specs.Account.{openingMost, holding}
+use Rattle.serial.proofs.Within.{told-in, told-out}
+use Rattle.serial.specs.declared.Opening.the-variants.{At, Refused}
+use Rattle.serial.specs.Account.{openingMost, accountOf}
 use borrow.Author.Needs.{needs}
 use Rattle.serial.proofs.account.Account.opened.Statement.{statement}
 use Rattle.serial.proofs.account.Account.opened.Tie as tie
@@ -15,10 +15,10 @@ enum-told : tie.Need-enum-told
 enum-told c = search needs
 
 returns : tie.Need-returns
-returns c = told (opens holding) 0 openingMost (c .before .balance .given .1) (c .before .before .before .within .ensures) (c .before .before .before .before .fits .opening)
+returns c = told-in (λ n. At (accountOf n)) Refused 0 openingMost (c .before .before .before .within .ensures) (c .before .before .before .before .fits .opening) (c .before .balance .given .1)
 
 returns-2 : tie.Need-returns-2
-returns-2 c = told (opens holding) 0 openingMost (c .enum-told .given .1) (c .before .before .within .ensures) (c .before .before .before .fits .opening)
+returns-2 c = told-out (λ n. At (accountOf n)) Refused 0 openingMost (c .before .before .within .ensures) (c .before .before .before .fits .opening) (c .enum-told .given .1)
 
 pub opened-spec : {M : Type 1} → statement M
 opened-spec = tie.close (tie.spec within-requires enum-known-balance enum-told returns returns-2)

@@ -1,5 +1,5 @@
 -- The serial objects over all kinds. Source: document 01, "Objects and numbers", "Calls, answers and their order" and "The conflict table".
-use Prim.Native.Nat.{ℕ, _+_, _<_, _≤_, _^_}
+use Prim.Native.Nat.{ℕ, _≤_}
 use mathlib.Core.Bool.{Bool, true, false, cond}
 use mathlib.Core.List.{List, []}
 use lib.IntN.{ℤ}
@@ -7,7 +7,6 @@ use lib.Dec.{eqb}
 use lib.ListN.{getD}
 use Rattle.serial.specs.declared.Kind.{Kind}
 use Rattle.serial.specs.declared.Kind.the-variants.{Account, Register, Unknown}
-use Rattle.serial.specs.declared.account.AccountOperation.the-variants.{Balance, Deposit, Withdraw}
 use Rattle.serial.specs.declared.State.{State}
 use Rattle.serial.specs.declared.State.the-variants as S
 use Rattle.serial.specs.declared.Operation.{Operation}
@@ -50,15 +49,13 @@ stepOf (S.Account account) (O.Register o) = record { state = S.Account account; 
 stepOf (S.Register register) (O.Account o) = record { state = S.Register register; outcome = Fail }
 stepOf (S.Register register) (O.Register o) = R.stepOf register o
 
--- a deposit leaves a balance that 32 bits hold
+-- no sum wraps
 abbrev pub Room : State → Operation → Type 0
-Room (S.Account account) (O.Account Balance) = Unit {0}
-Room (S.Account account) (O.Account (Deposit n)) = account .balance + n < 2 ^ 32
-Room (S.Account account) (O.Account (Withdraw n)) = Unit {0}
+Room (S.Account account) (O.Account o) = A.Room account o
 Room (S.Account account) (O.Register o) = Unit {0}
 Room (S.Register register) o = Unit {0}
 
--- no balance exceeds the largest opening and 1,024 deposits of the largest size; a register's value is one that can be written
+-- no balance exceeds the largest, and no value
 abbrev pub Bounded : State → Type 0
 Bounded (S.Account account) = account .balance ≤ A.balanceMost
 Bounded (S.Register register) = register .value ≤ R.valueMost
