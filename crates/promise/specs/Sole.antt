@@ -1,4 +1,5 @@
 -- A contract that leaves one result. `post` is what a function's `ensures` says: of the arguments, the result, and the arguments at exit.
+-- It speaks of the result alone; a function that writes what it is lent has to say as much of that.
 use mathlib.Core.Path.{_≡_}
 use mathlib.Core.List.{List}
 use Prim.Native.Nat.{ℕ}

@@ -1,6 +1,6 @@
 -- What is proved of the serial objects, besides each function's own contract.
-use mathlib.Core.Path.{_≡_, refl, sym, ap, _∙_}
-use mathlib.Core.Bool.{true, false, true≢false}
+use mathlib.Core.Path.{_≡_, refl, sym, ap}
+use mathlib.Core.Bool.{false}
 use mathlib.Core.List.{List}
 use Prim.Native.Nat.{ℕ, _+_, _*_, _<_, _≤_}
 use native.Mathlib.Nat.{zero-add}
@@ -9,7 +9,7 @@ use lib.ListN.{length}
 use Rattle.theory.specs.Serial.{Op, Right, Swaps, Commute, AlikeIsSame, run}
 use Rattle.theory.proofs.Alike.{alike-answers}
 use Rattle.theory.proofs.Forms.{idle-swaps}
-use Rattle.serial.specs.Kinds.{openedOf, decodeOf, stepOf, Room, Bounded, recallOf, verdict, tableOf, classOf, conflictOf}
+use Rattle.serial.specs.Kinds.{openedOf, decodeOf, stepOf, Room, Bounded, recallOf, tableOf, classOf, conflictOf}
 use Rattle.serial.specs.Outcome.{numbersOf}
 use Rattle.serial.specs.Account as A
 use Rattle.serial.specs.Register as R
@@ -26,8 +26,6 @@ use Rattle.serial.specs.declared.outcome.Outcome.{Outcome}
 use Rattle.serial.specs.declared.outcome.Outcome.the-variants.{Ok, Value}
 use Rattle.serial.specs.declared.outcome.Recalled.the-variants.{Given}
 use Rattle.serial.specs.declared.Answered.{Answered}
-use Rattle.serial.specs.declared.Class.{Class}
-use Rattle.serial.specs.declared.Class.the-variants.{Row, None}
 use Rattle.serial.specs.declared.Opening.the-variants.{At}
 use Rattle.serial.specs.declared.Decoded.the-variants.{Fit}
 use Rattle.serial.proofs.Outcomes.{value-is}

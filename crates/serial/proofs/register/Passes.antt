@@ -1,6 +1,6 @@
 -- Every pass of the register's table commutes, as the account's.
-use mathlib.Core.Path.{_≡_, refl, sym, ap, _∙_}
-use Prim.Native.Nat.{ℕ, _≤_}
+use mathlib.Core.Path.{_≡_, refl, ap}
+use Prim.Native.Nat.{ℕ}
 use native.Mathlib.Omega.{arith}
 use Rattle.theory.specs.Serial.{Serial, Op, Right, Swaps, Commute}
 use Rattle.theory.proofs.Alike.{alike-answers}
