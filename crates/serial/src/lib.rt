@@ -7,14 +7,14 @@ mod register;
 
 ghost use mathlib.Core.Path.{_≡_};
 ghost use Rattle.serial.specs.Kinds.{kindOf, openedOf, decodeOf, stepOf, Room, recallOf, classOf, tableOf, entry, conflictOf};
-use account::Account;
-use account::AccountOperation;
+pub use account::Account;
+pub use account::AccountOperation;
 pub use outcome::Numbers;
 pub use outcome::Outcome;
 pub use outcome::Recalled;
 pub use outcome::numbers_of;
-use register::Register;
-use register::RegisterOperation;
+pub use register::Register;
+pub use register::RegisterOperation;
 
 pub enum Kind {
     Account,
