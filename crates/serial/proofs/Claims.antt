@@ -13,7 +13,7 @@ use Rattle.serial.specs.Kinds.{openedOf, decodeOf, stepOf, Room, Bounded
 use Rattle.serial.specs.Outcome.{numbersOf}
 use Rattle.serial.specs.Account as A
 use Rattle.serial.specs.Register as R
-use Rattle.serial.specs.Object.{StateOf, account, register, objectOf, opOf}
+use Rattle.serial.specs.Object.{StateOf, account, register, objectOf, opOf, AllFit}
 use Rattle.serial.specs.declared.Kind.{Kind}
 use Rattle.serial.specs.declared.Kind.the-variants.{Account, Register, Unknown}
 use Rattle.serial.specs.declared.account.AccountOperation.the-variants.{Balance, Deposit, Withdraw}
@@ -30,7 +30,7 @@ use Rattle.serial.specs.declared.Opening.the-variants.{At}
 use Rattle.serial.specs.declared.Decoded.the-variants.{Fit}
 use Rattle.serial.proofs.Outcomes.{value-is}
 use Rattle.serial.proofs.Table.{size, sized, mirror, verdict-sym, no-row, Passed, passed}
-use Rattle.serial.proofs.Takes.{Taken, decoded-takes, takes-room, takes-recalled, opened-grown, run-grown, grown-has}
+use Rattle.serial.proofs.Takes.{decoded-takes, takes-room, takes-recalled, opened-grown, run-grown, grown-has}
 use Rattle.serial.proofs.account.Passes as account-passes
 use Rattle.serial.proofs.register.Passes as register-passes
 
@@ -88,12 +88,12 @@ pub alike-is-same : (kind : Kind) → AlikeIsSame (objectOf kind)
 alike-is-same kind s t (account {n}) (account {n = m}) alike = ap A.accountOf (sym (value-is (alike-answers (objectOf Account) _ _ (O.Account Balance) alike)))
 alike-is-same kind s t (register {n} h) (register {n = m} k) alike = ap R.registerOf (sym (value-is (alike-answers (objectOf Register) _ _ (O.Register Read) alike)))
 
--- Document 01: no balance can exceed the largest opening and 1,024 deposits of the largest size. From an accepted opening, whatever 1,024 operations
--- `decode` lets through, the object is in a state of its kind and within its bound.
+-- Document 01: no balance can exceed the largest opening and 1,024 deposits of the largest size. From an accepted opening, after at most 1,024
+-- operations that `decode` lets through, the object is in a state of its kind and within its bound.
 pub largest-balance : A.openingMost + 1024 * A.amountMost ≡ A.balanceMost
 largest-balance = refl
 
-pub stays-bounded : (kind : Kind) (x : ℤ) (s : State) (l : List (Op (objectOf kind))) → openedOf kind x ≡ At s → Taken kind l → length l ≤ 1024
+pub stays-bounded : (kind : Kind) (x : ℤ) (s : State) (l : List (Op (objectOf kind))) → openedOf kind x ≡ At s → AllFit kind l → length l ≤ 1024
     → StateOf kind (run (objectOf kind) s l) × Bounded (run (objectOf kind) s l)
 stays-bounded kind x s l e t h = grown-has kind (0 + length l) (run (objectOf kind) s l) (run-grown kind l s 0 t (opened-grown kind x s e)) (rw zero-add h)
 

@@ -16,7 +16,7 @@ use Rattle.serial.specs.Kinds.{openedOf, decodeOf, stepOf, Room, Bounded
 use Rattle.serial.specs.Outcome.{numbersOf}
 use Rattle.serial.specs.Account as A
 use Rattle.serial.specs.Register as R
-use Rattle.serial.specs.Object.{StateOf, account, register, objectOf}
+use Rattle.serial.specs.Object.{StateOf, account, register, objectOf, AllFit}
 use Rattle.serial.specs.declared.Kind.{Kind}
 use Rattle.serial.specs.declared.Kind.the-variants.{Account, Register, Unknown}
 use Rattle.serial.specs.declared.account.AccountOperation.the-variants.{Balance, Deposit, Withdraw}
@@ -109,13 +109,9 @@ opens-grown Unknown x = tt
 pub opened-grown : (kind : Kind) (x : ℤ) (s : State) → openedOf kind x ≡ At s → Grown kind 0 s
 opened-grown kind x s e = rw e at (opens-grown kind x)
 
--- operations that `decode` lets through, whatever the replies
-pub data Taken (kind : Kind) : List (Op (objectOf kind)) → Type 0 where
-  none : Taken kind []
-  more : {p : Op (objectOf kind)} {l : List (Op (objectOf kind))} → Takes kind (p .ask) → Taken kind l → Taken kind (p ∷ l)
-
-pub run-grown : (kind : Kind) (l : List (Op (objectOf kind))) (s : State) (k : ℕ) → Taken kind l → Grown kind k s → Grown kind (k + length l) (run (objectOf kind) s l)
-run-grown kind l s k none g = rw add-zero g
-run-grown kind l s k (more {p} {l = rest} t ts) g =
-    let e : k + suc (length rest) ≡ suc k + length rest = omega arith in
-    rw e (run-grown kind rest (stepOf s (p .ask) .state) (suc k) ts (takes-grown kind (p .ask) s k g t))
+pub run-grown : (kind : Kind) (l : List (Op (objectOf kind))) (s : State) (k : ℕ) → AllFit kind l → Grown kind k s → Grown kind (k + length l) (run (objectOf kind) s l)
+run-grown kind [] s k fit g = rw add-zero g
+run-grown kind (p ∷ l) s k fit g =
+    let e : k + suc (length l) ≡ suc k + length l = omega arith in
+    let t = decoded-takes kind (fit .0 .0) (fit .0 .1) (p .ask) (fit .0 .2) in
+    rw e (run-grown kind l (stepOf s (p .ask) .state) (suc k) (fit .1) (takes-grown kind (p .ask) s k g t))

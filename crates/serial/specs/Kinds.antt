@@ -55,7 +55,7 @@ Room (S.Account account) (O.Account o) = A.Room account o
 Room (S.Account account) (O.Register o) = Unit {0}
 Room (S.Register register) o = Unit {0}
 
--- no balance exceeds the largest, and no value
+-- a balance is at most 2,024,000,000, a register's value at most 1,000,000,000
 abbrev pub Bounded : State → Type 0
 Bounded (S.Account account) = account .balance ≤ A.balanceMost
 Bounded (S.Register register) = register .value ≤ R.valueMost

@@ -1,5 +1,8 @@
 -- Each kind as a serial object of the paper, over all its states. Source: document 01, "The conflict table".
+use mathlib.Core.Path.{_≡_}
+use mathlib.Core.List.{List, [], _∷_}
 use Prim.Native.Nat.{ℕ, _≤_}
+use lib.IntN.{ℤ}
 use Rattle.theory.specs.Serial.{Serial, Op}
 use Rattle.serial.specs.declared.Kind.{Kind}
 use Rattle.serial.specs.declared.Kind.the-variants.{Account, Register}
@@ -7,7 +10,8 @@ use Rattle.serial.specs.declared.State.{State}
 use Rattle.serial.specs.declared.Operation.{Operation}
 use Rattle.serial.specs.declared.outcome.Outcome.{Outcome}
 use Rattle.serial.specs.declared.Answered.{Answered}
-use Rattle.serial.specs.Kinds.{stepOf}
+use Rattle.serial.specs.declared.Decoded.the-variants.{Fit}
+use Rattle.serial.specs.Kinds.{decodeOf, stepOf}
 use Rattle.serial.specs.Account as A
 use Rattle.serial.specs.Register as R
 
@@ -29,3 +33,8 @@ objectOf kind = record {
 -- an operation with its outcome, as the paper's operation
 abbrev pub opOf : (kind : Kind) → Answered → Op (objectOf kind)
 opOf kind p = record { ask = p .operation; reply = p .outcome }
+
+-- each operation is one that `decode` lets through
+abbrev pub AllFit : (kind : Kind) → List (Op (objectOf kind)) → Type 0
+AllFit kind [] = Unit {0}
+AllFit kind (p ∷ l) = ((k : ℕ) × (x : ℤ) × (decodeOf kind k x ≡ Fit (p .ask))) × AllFit kind l
