@@ -1,6 +1,7 @@
--- Tests, searches, counts and writes over the numbers below a bound. Each recurses on the bound, so that one turn of a loop is one step.
-use Prim.Native.Nat.{ℕ, zero, suc, _+_}
+-- Tests, searches and writes over the numbers below a bound. Each recurses on the bound, so that one turn of a loop is one step.
+use Prim.Native.Nat.{ℕ, zero, suc, _<_}
 use mathlib.Core.Bool.{Bool, true, false, cond, _&&_, _||_}
+use mathlib.Core.Path.{_≡_}
 use mathlib.Core.List.{List}
 use lib.ListN.{set}
 
@@ -19,10 +20,11 @@ unfoldable pub firstBelow : ℕ → (ℕ → Bool) → ℕ
 firstBelow zero p = zero
 firstBelow (suc n) p = cond (anyBelow n p) (firstBelow n p) (cond (p n) n (suc n))
 
--- how many k below n pass
-unfoldable pub countBelow : ℕ → (ℕ → Bool) → ℕ
-countBelow zero p = zero
-countBelow (suc n) p = countBelow n p + cond (p n) 1 0
+-- k is the lowest below n that passes
+pub record Lowest (n : ℕ) (p : ℕ → Bool) (k : ℕ) : Type 0 where
+  pub small : k < n
+  pub passes : p k ≡ true
+  pub none-lower : (j : ℕ) → j < k → p j ≡ false
 
 -- the column l with the value g k at each place k below n
 unfoldable pub setBelow : {A : Type 0} → ℕ → (ℕ → A) → List A → List A

@@ -9,6 +9,9 @@ kind-of κs a x y s t = sole
 opened : Sole 0 of.opened.Kinds.ps of.opened.Kinds.r of.opened.Reads.Learnt
 opened κs a x y s t = sole
 
+opened-state : Sole 0 of.opened_state.Kinds.ps of.opened_state.Kinds.r of.opened_state.Reads.Learnt
+opened-state κs a x y s t = sole
+
 decode : Sole 0 of.decode.Kinds.ps of.decode.Kinds.r of.decode.Reads.Learnt
 decode κs a x y s t = sole
 

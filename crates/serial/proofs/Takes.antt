@@ -16,7 +16,7 @@ use Rattle.serial.specs.Kinds.{openedOf, decodeOf, stepOf, Room, Bounded
 use Rattle.serial.specs.Outcome.{numbersOf}
 use Rattle.serial.specs.Account as A
 use Rattle.serial.specs.Register as R
-use Rattle.serial.specs.Object.{StateOf, account, register, objectOf, AllFit}
+use Rattle.serial.specs.Object.{StateOf, account, register, objectOf, AllFit, Grown, upto, kept}
 use Rattle.serial.specs.declared.Kind.{Kind}
 use Rattle.serial.specs.declared.Kind.the-variants.{Account, Register, Unknown}
 use Rattle.serial.specs.declared.account.AccountOperation.the-variants.{Balance, Deposit, Withdraw}
@@ -77,11 +77,6 @@ takes-recalled kind o s account (deposit l m) h = refl
 takes-recalled kind o s (account {n}) (withdraw {n = m} l k) h = ⊎-elim (λ e. rw (le-leb m n e)) (λ e. rw (lt-leb m n e)) (le-or m n)
 takes-recalled kind o s (register {n} b) read h = rw (le-leb 0 n (omega arith), le-leb n R.valueMost h)
 takes-recalled kind o s (register b) (write m) h = refl
-
--- a state of the kind, after at most so many deposits of the largest size
-pub data Grown : Kind → ℕ → State → Type 0 where
-  upto : (n k : ℕ) → n ≤ A.openingMost + k * A.amountMost → Grown Account k (A.accountOf n)
-  kept : (n k : ℕ) → n ≤ R.valueMost → Grown Register k (R.registerOf n)
 
 -- a step keeps the kind's states, and grows by one deposit at most
 pub takes-grown : (kind : Kind) (o : Operation) (s : State) (k : ℕ) → Grown kind k s → Takes kind o → Grown kind (suc k) (stepOf s o .state)

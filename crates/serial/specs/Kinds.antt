@@ -17,7 +17,7 @@ use Rattle.serial.specs.declared.Answered.{Answered}
 use Rattle.serial.specs.declared.Stepped.{Stepped}
 use Rattle.serial.specs.declared.outcome.Recalled.{Recalled}
 use Rattle.serial.specs.declared.Opening.{Opening}
-use Rattle.serial.specs.declared.Opening.the-variants.{Refused}
+use Rattle.serial.specs.declared.Opening.the-variants.{At, Refused}
 use Rattle.serial.specs.declared.Decoded.{Decoded}
 use Rattle.serial.specs.declared.Decoded.the-variants.{Unfit}
 use Rattle.serial.specs.declared.Class.{Class}
@@ -35,6 +35,15 @@ abbrev pub openedOf : Kind → ℤ → Opening
 openedOf Account opening = A.openedOf opening
 openedOf Register opening = R.openedOf opening
 openedOf Unknown opening = Refused
+
+abbrev pub opens : Opening → Bool
+opens (At s) = true
+opens Refused = false
+
+-- the state that it opens with; what does not open, which no form allows, counts as an account of 0
+abbrev pub startOf : Opening → State
+startOf (At s) = s
+startOf Refused = A.accountOf 0
 
 -- code 7 where it is not fit: the operation is unknown, not of this kind, or its argument outside its range
 abbrev pub decodeOf : Kind → ℕ → ℤ → Decoded

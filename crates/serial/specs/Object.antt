@@ -1,7 +1,7 @@
 -- Each kind as a serial object of the paper, over all its states. Source: document 01, "The conflict table".
 use mathlib.Core.Path.{_≡_}
 use mathlib.Core.List.{List, [], _∷_}
-use Prim.Native.Nat.{ℕ, _≤_}
+use Prim.Native.Nat.{ℕ, _+_, _*_, _≤_}
 use lib.IntN.{ℤ}
 use Rattle.theory.specs.Serial.{Serial, Op}
 use Rattle.serial.specs.declared.Kind.{Kind}
@@ -38,3 +38,8 @@ opOf kind p = record { ask = p .operation; reply = p .outcome }
 abbrev pub AllFit : (kind : Kind) → List (Op (objectOf kind)) → Type 0
 AllFit kind [] = Unit {0}
 AllFit kind (p ∷ l) = ((k : ℕ) × (x : ℤ) × (decodeOf kind k x ≡ Fit (p .ask))) × AllFit kind l
+
+-- a state of the kind, grown from an opening by at most so many deposits of the largest size
+pub data Grown : Kind → ℕ → State → Type 0 where
+  upto : (n k : ℕ) → n ≤ A.openingMost + k * A.amountMost → Grown Account k (A.accountOf n)
+  kept : (n k : ℕ) → n ≤ R.valueMost → Grown Register k (R.registerOf n)

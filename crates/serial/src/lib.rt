@@ -6,7 +6,7 @@ mod range;
 mod register;
 
 ghost use mathlib.Core.Path.{_≡_};
-ghost use Rattle.serial.specs.Kinds.{kindOf, openedOf, decodeOf, stepOf, Room, recallOf, classOf, tableOf, entry, conflictOf};
+ghost use Rattle.serial.specs.Kinds.{kindOf, openedOf, startOf, decodeOf, stepOf, Room, recallOf, classOf, tableOf, entry, conflictOf};
 pub use account::Account;
 pub use account::AccountOperation;
 pub use outcome::Numbers;
@@ -84,6 +84,16 @@ pub fn opened(kind: Kind, opening: i64) -> Opening
         Kind::Account => Account::opened(opening),
         Kind::Register => Register::opened(opening),
         Kind::Unknown => Opening::Refused,
+    }
+}
+
+// The state that an object opens with; one that does not open counts as an account of 0.
+pub fn opened_state(kind: Kind, opening: i64) -> State
+    ensures { λ r. ⌜ r ≡ startOf (openedOf kind opening) ⌝ }
+{
+    match opened(kind, opening) {
+        Opening::At(s) => s,
+        Opening::Refused => State::Account(Account { balance: 0 }),
     }
 }
 
