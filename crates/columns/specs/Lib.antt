@@ -1,0 +1,4 @@
+pub mod Column
+pub mod Tree
+pub mod Work
+pub mod Mask
