@@ -1,0 +1,5 @@
+pub mod After
+pub mod Views
+pub mod Links
+pub mod Walks
+pub mod Sole
