@@ -1,0 +1,14 @@
+pub mod Refusals
+pub mod Opens
+pub mod Facts
+pub mod Finishing
+pub mod Asking
+pub mod Responding
+pub mod Creating
+pub mod Sizes
+pub mod Kept
+pub mod Views
+pub mod Answers
+pub mod Waits
+pub mod Effects
+pub mod Sole

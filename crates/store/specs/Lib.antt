@@ -1,0 +1,10 @@
+pub mod Lists
+pub mod Form
+pub mod Refusal
+pub mod Exact
+pub mod Create
+pub mod Respond
+pub mod Finish
+pub mod Open
+pub mod Effects
+pub mod Claims
