@@ -10,3 +10,12 @@ use denote.Triple.Clauses.{AtExit}
 abbrev pub Sole : (n : ℕ) (ps : List (PK n)) (r : RK n) → Out n ps r → Type 0
 Sole n ps r post =
     (κs : Lfts n) (a : Dens κs ps) (x y : resT r κs .Denot) (s t : AtExit (endedOf n ps r) κs) → post κs a x s → post κs a y t → x ≡ y
+
+-- one that gives the result as this function of the arguments
+abbrev pub Gives : (n : ℕ) (ps : List (PK n)) (r : RK n) → Out n ps r → ((κs : Lfts n) → Dens κs ps → resT r κs .Denot) → Type 0
+Gives n ps r post given =
+    (κs : Lfts n) (a : Dens κs ps) (x : resT r κs .Denot) (s : AtExit (endedOf n ps r) κs) → post κs a x s → x ≡ given κs a
+
+-- and one that asks nothing of the caller; `pre` is what a function's `requires` says
+abbrev pub AsksNothing : (n : ℕ) (ps : List (PK n)) → ((κs : Lfts n) → Dens κs ps → Type 0) → Type 0
+AsksNothing n ps pre = (κs : Lfts n) (a : Dens κs ps) → pre κs a
