@@ -3,12 +3,13 @@
 use Prim.Native.Nat.{ℕ, zero, suc, _+_, _<_}
 use mathlib.Core.Path.{_≡_, refl, sym, ap, _∙_}
 use mathlib.Core.Bool.{true, false}
-use mathlib.Core.Logic.{_↔_}
+use mathlib.Core.Logic.{_↔_, ⊎-elim}
 use mathlib.Core.List.{List, [], _∷_}
 use native.Mathlib.Omega.{arith}
 use lib.IntN.{pos}
 use lib.ListN.{length}
 use lib.Dec.{eqb}
+use Rattle.promise.proofs.Sole.{sole}
 use Rattle.below.specs.Below.{anyBelow, Lowest}
 use Rattle.below.proofs.Tests.{and-fst, and-snd}
 use Rattle.below.proofs.Search.{first-lowest}
@@ -29,7 +30,7 @@ use Rattle.store.specs.Respond.{askingOf, resultOf, responded, respondRe
 use Rattle.store.specs.Claims.{Decided}
 use Rattle.store.specs.Finish.{childOpen, unanswered, committed, commitRefusals, commitOf, aborted, abortRefusals, abortOf}
 use Rattle.store.proofs.Facts.{Form, form-facts}
-use Rattle.store.proofs.Refusals.{distinct, here, next, exactly, none-holds, all-pass, refused-same}
+use Rattle.store.proofs.Refusals.{first-or-none, distinct, here, next, exactly, none-holds, all-pass, refused-same}
 
 module _ (s : Store) (done : Reply) where
   first-reply : (refusals : List Refusal) (i : ℕ) → i < length refusals → FirstToHold refusals i → decide s refusals done ≡ replyOf s (nth refusals i .answer)
@@ -49,6 +50,12 @@ module _ (s : Store) (done : Reply) where
         does = λ e. all-pass s done refusals (none e);
         refused = λ n. refused-same s done refusals n z;
       }
+
+-- two replies of which this is so are equal
+pub decided-sole : (s : Store) (refusals : List Refusal) (done x y : Reply) → Decided s refusals done x → Decided s refusals done y → x ≡ y
+decided-sole s refusals done x y p q =
+    ⊎-elim (λ (i, b, first). sole (p .whole i b first) (q .whole i b first)) (λ none. sole (p .does (p .passed .1 none)) (q .does (q .passed .1 none)))
+    (first-or-none refusals)
 
 -- create: 15, 1, 3, 4, 5, 6, 7, 8
 module _ (s : Store) (p : ℕ) where

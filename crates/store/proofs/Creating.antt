@@ -19,9 +19,10 @@ use Rattle.store.specs.declared.Child.{Child}
 use Rattle.store.specs.declared.Child.the-variants.{Plain, Access}
 use Rattle.store.specs.Lists.{kindAt}
 use Rattle.store.specs.Refusal.{answerOf, replyOf, firstCode}
+use Rattle.store.specs.Exact.{NoneHolds}
 use Rattle.store.specs.Create.{noObject, unfitIn, unfit, requestOf, created, createRefusals, createOf}
 use Rattle.store.proofs.Facts.{Form, form-facts}
-use Rattle.store.proofs.Refusals.{NoneHolds, none-first, distinct, all-pass, stops}
+use Rattle.store.proofs.Refusals.{none-first, distinct, all-pass, stops}
 use Rattle.store.proofs.Answers.{create-order}
 
 -- what is not unfit fits

@@ -24,6 +24,7 @@ use Rattle.form.proofs.Facts.{Used, used-or, unanswered-unlisted}
 use Rattle.form.proofs.KeptAccesses.{root-plain}
 use Rattle.form.proofs.KeptLists.{missing}
 use Rattle.store.specs.declared.Store.{Store}
+use Rattle.store.specs.Exact.{NoneHolds}
 use Rattle.store.specs.declared.Request.{Request}
 use Rattle.store.specs.declared.Child.{Child}
 use Rattle.store.specs.Lists.{rowsOf, listOf}
@@ -32,7 +33,6 @@ use Rattle.store.specs.Respond.{askingOf, resultOf, responded, respondRe
 use Rattle.store.specs.Finish.{finishedAs, committed, commitOf, aborted, abortOf}
 use Rattle.store.specs.Effects.{rowOf, inState, Creates, Responds, Commits, Aborts, Sized}
 use Rattle.store.proofs.Facts.{Form, form-facts, lower, listed-sound}
-use Rattle.store.proofs.Refusals.{NoneHolds}
 use Rattle.store.proofs.Responding.{Askable, has-place}
 use Rattle.store.proofs.Answers.{create-decided, respond-decided, commit-decided, abort-decided}
 
@@ -157,8 +157,9 @@ module _ (s : Store) (t : ℕ) (a : Askable s t) where
   absent : Misses t (work (s .listed) (s .order))
   absent = missing _ _ _ _ _ _ _ _ _ (form .tree) (form .lists) t unlisted
 
-  none : (o : ℕ) → listOf s o t ≡ []
-  none o = only-none _ _ (work-each (s .order) (λ x. onList (s .holder) (s .object) o t x ≡ false) (s .listed) (λ i b.
+  -- no list has it yet, and nothing is beneath it
+  pub own-list-empty : (o : ℕ) → listOf s o t ≡ []
+  own-list-empty o = only-none _ _ (work-each (s .order) (λ x. onList (s .holder) (s .object) o t x ≡ false) (s .listed) (λ i b.
       let x = at (s .order) i in
       let entry = form .lists .entries i b in
       let r = form .lists .rows x (omega (arith, entry .known, form .tree .few)) (λ z. omega (arith, entry .placed)) in
@@ -182,7 +183,7 @@ module _ (s : Store) (t : ℕ) (a : Askable s t) where
         rows = λ k n. rw (getD-set-other (s .outcome) t k (result .a + 1) 0 n, getD-set-other (s .value) t k (result .b) (pos 0) n);
         own =
             appended-own (s .listed) t (s .order) order-room (s .holder) (s .object) holder-row absent (at (s .object) t) t refl refl
-            ∙ ap (λ l. l ++ (t ∷ [])) (none (at (s .object) t));
+            ∙ ap (λ l. l ++ (t ∷ [])) (own-list-empty (at (s .object) t));
         lists = λ o u n. appended-other (s .listed) t (s .order) order-room (s .holder) (s .object) holder-row absent o u (λ e q. n e (sym q));
       }
 

@@ -14,9 +14,10 @@ use Rattle.columns.specs.Tree.{openChild}
 use Rattle.store.specs.declared.Store.{Store}
 use Rattle.store.specs.Lists.{rowsOf}
 use Rattle.store.specs.Refusal.{answerOf, replyOf, firstCode}
+use Rattle.store.specs.Exact.{NoneHolds}
 use Rattle.store.specs.Finish.{childOpen, unanswered, committed, commitOf, aborted, abortRefusals, abortOf}
 use Rattle.store.proofs.Facts.{Form, form-facts}
-use Rattle.store.proofs.Refusals.{NoneHolds, here, next, through, all-pass, stops, passes}
+use Rattle.store.proofs.Refusals.{here, next, through, all-pass, stops, passes}
 
 -- what is known of a transaction that both may finish
 pub record Finishable (s : Store) (t : ℕ) : Type 0 where

@@ -186,10 +186,10 @@ store-kept objects kind opening f =
 
 -- the objects of an opened store: each as it was given, and zeros past them
 module _ (kinds : List ℕ) (openings : List ℤ) where
-  kind-at : (o : ℕ) → o < length kinds → o < objectsMost → at (openedStore kinds openings .kind) o ≡ at kinds o
+  pub kind-at : (o : ℕ) → o < length kinds → o < objectsMost → at (openedStore kinds openings .kind) o ≡ at kinds o
   kind-at o h b = set-at (at kinds) (length kinds) o (replicate objectsMost 0) 0 h (rw length-replicate b)
 
-  opening-at : (o : ℕ) → o < length kinds → o < objectsMost → atZ (openedStore kinds openings .opening) o ≡ atZ openings o
+  pub opening-at : (o : ℕ) → o < length kinds → o < objectsMost → atZ (openedStore kinds openings .opening) o ≡ atZ openings o
   opening-at o h b = set-at (atZ openings) (length kinds) o (replicate objectsMost (pos 0)) (pos 0) h (rw length-replicate b)
 
   opened-objects : openable kinds openings ≡ true → Objects (length kinds) (openedStore kinds openings .kind) (openedStore kinds openings .opening)

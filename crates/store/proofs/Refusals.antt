@@ -2,7 +2,7 @@
 use Prim.Native.Nat.{ℕ, zero, suc, _<_}
 use mathlib.Core.Path.{_≡_, refl, sym, ap, _∙_}
 use mathlib.Core.Bool.{Bool, true, false, cond, _&&_, not, and-eq-true-iff}
-use mathlib.Core.Logic.{_↔_, ⊎-elim}
+use mathlib.Core.Logic.{_↔_, _⊎_, inl, inr, ⊎-elim}
 use mathlib.Core.List.{List, [], _∷_, _++_}
 use native.Mathlib.Omega.{arith}
 use lib.IntN.{pos}
@@ -13,7 +13,7 @@ use Rattle.below.proofs.Tests.{bool-or}
 use Rattle.store.specs.declared.Store.{Store}
 use Rattle.store.specs.declared.Reply.{Reply}
 use Rattle.store.specs.Refusal.{Refusal, answerOf, replyOf, decide, firstCode}
-use Rattle.store.specs.Exact.{codesOf, nth, FirstToHold}
+use Rattle.store.specs.Exact.{codesOf, nth, FirstToHold, NoneHolds}
 
 -- a call's way: past the refusals that do not hold, to the first that does or to what is done
 module _ (s : Store) (done : Reply) where
@@ -38,13 +38,26 @@ abbrev pub distinct : List ℕ → Bool
 distinct [] = true
 distinct (c ∷ l) = not (eqb c 0) && (apart c l && distinct l)
 
--- no refusal's condition holds
-abbrev pub NoneHolds : List Refusal → Type 0
-NoneHolds rs = (i : ℕ) → i < length rs → nth rs i .when ≡ false
-
 pub none-more : (r : Refusal) (rest : List Refusal) → r .when ≡ false → NoneHolds rest → NoneHolds (r ∷ rest)
 none-more r rest e n zero b = e
 none-more r rest e n (suc i) b = n i (omega arith)
+
+-- some refusal is the first to hold, or none holds
+abbrev pub FirstOrNone : List Refusal → Type 0
+FirstOrNone rs = ((i : ℕ) × (i < length rs) × FirstToHold rs i) ⊎ NoneHolds rs
+
+pub first-or-none : (rs : List Refusal) → FirstOrNone rs
+first-or-none [] = inr (λ i b. absurd (omega arith))
+first-or-none (r ∷ rest) =
+    ⊎-elim (λ t. inl (0, omega arith, record { holds = t; none-earlier = λ j b. absurd (omega arith) })) (λ f. later f (first-or-none rest)) (bool-or (r .when))
+  where
+    earlier : r .when ≡ false → (i : ℕ) → FirstToHold rest i → (j : ℕ) → j < suc i → nth (r ∷ rest) j .when ≡ false
+    earlier e i f zero b = e
+    earlier e i f (suc j) b = f .none-earlier j (omega arith)
+
+    later : r .when ≡ false → FirstOrNone rest → FirstOrNone (r ∷ rest)
+    later e (inl (i, b, f)) = inl (suc i, omega arith, record { holds = f .holds; none-earlier = earlier e i f })
+    later e (inr n) = inr (none-more r rest e n)
 
 -- what `distinct` says of the first code and the rest
 first-code : (c : ℕ) (l : List ℕ) → distinct (c ∷ l) ≡ true → (not (eqb c 0) ≡ true) × (apart c l ≡ true) × (distinct l ≡ true)

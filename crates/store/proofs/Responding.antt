@@ -20,9 +20,10 @@ use Rattle.store.specs.declared.Store.{Store}
 use Rattle.store.specs.Form.{inForm}
 use Rattle.store.specs.Lists.{rowsOf}
 use Rattle.store.specs.Refusal.{answerOf, replyOf, firstCode}
+use Rattle.store.specs.Exact.{NoneHolds}
 use Rattle.store.specs.Respond.{askingOf, waitFor, responded, mustWait, askRefusals, respondOf}
 use Rattle.store.proofs.Facts.{form-facts}
-use Rattle.store.proofs.Refusals.{NoneHolds, here, next, through, stops, passes}
+use Rattle.store.proofs.Refusals.{here, next, through, stops, passes}
 use Rattle.store.proofs.Asking.{ready}
 use Rattle.store.proofs.Waits.{asking-known, asking-as}
 

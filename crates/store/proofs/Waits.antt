@@ -150,12 +150,15 @@ module _ (s : Store) (t : ℕ) where
       let asks = asking-known fine (ltb-false _ _ (first .none-earlier 1 (omega arith))) (eqb-false _ _ (first .none-earlier 3 (omega arith))) in
       let names = waits-names s t (asks .0) fine (asks .1) (first .holds) in
       record {
-        asking = asks .0;
-        asked = asks .1;
-        holder = at (s .holder) (waitFor s t (askingOf s t));
-        access = waitFor s t (askingOf s t);
+        blocked =
+            record {
+              asking = asks .0;
+              asked = asks .1;
+              holder = at (s .holder) (waitFor s t (askingOf s t));
+              access = waitFor s t (askingOf s t);
+              conflicting = names .0;
+            };
         answered = ap (λ r. r .answer) (respond-decided s t .whole 7 (omega arith) first);
-        conflicting = names .0;
         lowest = names .1;
       }
 

@@ -20,7 +20,7 @@ use Rattle.store.specs.declared.Answer.{Answer}
 use Rattle.store.specs.declared.Reply.{Reply}
 use Rattle.store.specs.Lists.{listOf, kindAt, askedAt, recordedAt, stateFor}
 use Rattle.store.specs.Refusal.{Refusal, answerOf, replyOf}
-use Rattle.store.specs.Exact.{nth, FirstToHold}
+use Rattle.store.specs.Exact.{nth, FirstToHold, NoneHolds}
 
 -- what its order of refusals says of a call's reply; `done` is what the call hands back where none holds
 pub record Decided (s : Store) (refusals : List Refusal) (done reply : Reply) : Type 0 where
@@ -29,7 +29,7 @@ pub record Decided (s : Store) (refusals : List Refusal) (done reply : Reply) : 
   -- then with its a and b, and the store as it came in
   pub whole : (i : ℕ) → i < length refusals → FirstToHold refusals i → reply ≡ replyOf s (nth refusals i .answer)
   -- 0 is given exactly when none holds, and then the call is done
-  pub passed : (reply .answer .code ≡ 0) ↔ ((i : ℕ) → i < length refusals → nth refusals i .when ≡ false)
+  pub passed : (reply .answer .code ≡ 0) ↔ NoneHolds refusals
   pub does : reply .answer .code ≡ 0 → reply ≡ done
   -- any answer but 0 leaves the store equal to what came in
   pub refused : (reply .answer .code ≡ 0 → ⊥) → reply .store ≡ s
@@ -47,15 +47,19 @@ pub record Conflicting (s : Store) (t : ℕ) (asking : Answered) (h x : ℕ) : T
   pub recorded : recordedAt s (at (s .object) t) x ≡ As held
   pub conflicts : conflictOf (kindAt s (at (s .object) t)) asking held ≡ true
 
--- a response that must wait: code 13 names the lowest-numbered such access as b and the holder of its list as a
-pub record Waits (s : Store) (t : ℕ) (answer : Answer) : Type 0 where
+-- there is such an access
+pub record Blocked (s : Store) (t : ℕ) : Type 0 where
   pub asking : Answered
   pub asked : Asking s t asking
   pub holder : ℕ
   pub access : ℕ
-  pub answered : answer ≡ answerOf 13 holder (pos access)
   pub conflicting : Conflicting s t asking holder access
-  pub lowest : (h x : ℕ) → Conflicting s t asking h x → access ≤ x
+
+-- a response that must wait: code 13 names the lowest-numbered such access as b and the holder of its list as a
+pub record Waits (s : Store) (t : ℕ) (answer : Answer) : Type 0 where
+  pub blocked : Blocked s t
+  pub answered : answer ≡ answerOf 13 (blocked .holder) (pos (blocked .access))
+  pub lowest : (h x : ℕ) → Conflicting s t (blocked .asking) h x → blocked .access ≤ x
 
 -- a response that need not: there is no such access, and a and b are the result's
 pub record Granted (s : Store) (t : ℕ) (answer : Answer) : Type 0 where

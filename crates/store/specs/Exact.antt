@@ -3,7 +3,7 @@ use Prim.Native.Nat.{ℕ, _<_}
 use mathlib.Core.Path.{_≡_}
 use mathlib.Core.Bool.{true, false}
 use mathlib.Core.List.{List, [], _∷_}
-use lib.ListN.{getD}
+use lib.ListN.{getD, length}
 use Rattle.store.specs.Refusal.{Refusal, refuse}
 
 -- the codes, in the order of refusals
@@ -19,3 +19,7 @@ nth refusals i = getD refusals i (refuse 0 false)
 pub record FirstToHold (refusals : List Refusal) (i : ℕ) : Type 0 where
   pub holds : nth refusals i .when ≡ true
   pub none-earlier : (j : ℕ) → j < i → nth refusals j .when ≡ false
+
+-- no condition holds
+abbrev pub NoneHolds : List Refusal → Type 0
+NoneHolds refusals = (i : ℕ) → i < length refusals → nth refusals i .when ≡ false

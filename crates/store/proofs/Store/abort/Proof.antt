@@ -6,9 +6,10 @@ use borrow.Author.Needs.{needs}
 use Rattle.columns.specs.Tree.{hasAborted}
 use Rattle.store.specs.declared.Store.{Store}
 use Rattle.store.specs.Refusal.{answerOf, replyOf}
+use Rattle.store.specs.Exact.{NoneHolds}
 use Rattle.store.specs.Finish.{finishedAs, abortRefusals}
 use Rattle.store.proofs.Facts.{lower-rows, listed-sound}
-use Rattle.store.proofs.Refusals.{NoneHolds, none-first}
+use Rattle.store.proofs.Refusals.{none-first}
 use Rattle.store.proofs.Finishing.{Finishable, finishable, abort-refused, abort-done}
 use Rattle.store.proofs.Store.abort.Statement.{statement}
 use Rattle.store.proofs.Store.abort.Tie as tie

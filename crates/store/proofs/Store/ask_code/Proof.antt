@@ -9,9 +9,10 @@ use Rattle.columns.specs.Column.{at, rowsMost}
 use Rattle.store.specs.declared.Store.{Store}
 use Rattle.store.specs.Form.{inForm}
 use Rattle.store.specs.Refusal.{firstCode, malformed, missing, isRoot, finished, orphaned}
+use Rattle.store.specs.Exact.{NoneHolds}
 use Rattle.store.specs.Respond.{isPlain, answered, askRefusals}
 use Rattle.store.proofs.Facts.{Form, form-facts, lower, parent-known}
-use Rattle.store.proofs.Refusals.{NoneHolds, none-first, code-here, code-next, code-none, code-stop, code-pass}
+use Rattle.store.proofs.Refusals.{none-first, code-here, code-next, code-none, code-stop, code-pass}
 use Rattle.store.proofs.Store.ask_code.Statement.{statement}
 use Rattle.store.proofs.Store.ask_code.Tie as tie
 

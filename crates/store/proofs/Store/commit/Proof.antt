@@ -7,9 +7,10 @@ use Rattle.below.proofs.Search.{first-le}
 use Rattle.columns.specs.Tree.{hasCommitted, openChild}
 use Rattle.store.specs.declared.Store.{Store}
 use Rattle.store.specs.Refusal.{answerOf, replyOf}
+use Rattle.store.specs.Exact.{NoneHolds}
 use Rattle.store.specs.Finish.{finishedAs, abortRefusals}
 use Rattle.store.proofs.Facts.{listed-sound}
-use Rattle.store.proofs.Refusals.{NoneHolds, none-first}
+use Rattle.store.proofs.Refusals.{none-first}
 use Rattle.store.proofs.Finishing.{Finishable, finishable, commit-refused, commit-early, commit-unanswered, commit-done}
 use Rattle.store.proofs.Store.commit.Statement.{statement}
 use Rattle.store.proofs.Store.commit.Tie as tie

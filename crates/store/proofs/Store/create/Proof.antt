@@ -6,8 +6,8 @@ use borrow.Author.Needs.{needs}
 use Rattle.store.specs.declared.Store.{Store}
 use Rattle.store.specs.declared.Child.{Child}
 use Rattle.store.specs.Refusal.{answerOf, replyOf}
+use Rattle.store.specs.Exact.{NoneHolds}
 use Rattle.store.specs.Create.{requestOf, created, createRefusals}
-use Rattle.store.proofs.Refusals.{NoneHolds}
 use Rattle.store.proofs.Creating.{Creatable, creatable, none-of, create-refused, create-done}
 use Rattle.store.proofs.Store.create.Statement.{statement}
 use Rattle.store.proofs.Store.create.Tie as tie

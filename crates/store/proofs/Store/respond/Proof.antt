@@ -6,9 +6,10 @@ use Rattle.columns.specs.Column.{rowsMost}
 use Rattle.replay.specs.declared.access.Recorded.the-variants.{As}
 use Rattle.store.specs.declared.Store.{Store}
 use Rattle.store.specs.Refusal.{replyOf}
+use Rattle.store.specs.Exact.{NoneHolds}
 use Rattle.store.specs.Respond.{askingOf, askRefusals}
 use Rattle.store.proofs.Facts.{form-facts, listed-sound}
-use Rattle.store.proofs.Refusals.{NoneHolds, none-first}
+use Rattle.store.proofs.Refusals.{none-first}
 use Rattle.store.proofs.Asking.{ready}
 use Rattle.store.proofs.Responding.{Askable, askable, has-place, small-a, respond-refused, something-asked, respond-waits, respond-done}
 use Rattle.store.proofs.Store.respond.Statement.{statement}
