@@ -1,0 +1,1 @@
+// The customer's demands: statements in specs/, theorems in proofs/. No code.
