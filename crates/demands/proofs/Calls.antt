@@ -25,7 +25,8 @@ use Rattle.store.proofs.Answers.{create-decided, respond-decided, commit-decide
 use Rattle.store.proofs.Effects.{create-does, respond-does, commit-does, abort-does}
 use Rattle.store.proofs.Sizes.{create-sized, respond-sized, commit-sized, abort-sized}
 use Rattle.store.proofs.Kept.{create-kept, respond-kept, commit-kept, abort-kept}
-use Rattle.demands.specs.Calls.{Call, create, respond, commit, abort, replyTo, refusalsTo, doneTo, Does, codesFor}
+use Rattle.store.specs.Calls.{Call, create, respond, commit, abort, replyTo}
+use Rattle.demands.specs.Calls.{refusalsTo, doneTo, Does, codesFor}
 
 pub answers : (s : Store) (c : Call) → Decided s (refusalsTo s c) (doneTo s c) (replyTo s c)
 answers s (create p child) = create-decided s p child

@@ -18,7 +18,8 @@ use Rattle.store.specs.Open.{openOf}
 use Rattle.store.proofs.Refusals.{next}
 use Rattle.store.proofs.Kept.{open-kept}
 use Rattle.store.proofs.Sizes.{open-sized}
-use Rattle.demands.specs.Calls.{Call, create, respond, commit, abort, replyTo, refusalsTo, doneTo, after, answersTo}
+use Rattle.store.specs.Calls.{Call, create, respond, commit, abort, replyTo, after, answersTo}
+use Rattle.demands.specs.Calls.{refusalsTo, doneTo}
 use Rattle.demands.specs.Cases.{Case, start, Holds, AllHold, table, root, under, withdraw, done, OK, FAIL, opening}
 use Rattle.demands.proofs.Calls.{decided-by, call-sized, call-kept}
 

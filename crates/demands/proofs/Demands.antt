@@ -21,7 +21,8 @@ use Rattle.store.specs.Lists.{listOf, viewOf}
 use Rattle.store.specs.Claims.{Decided}
 use Rattle.store.proofs.Answers.{decided-sole}
 use Rattle.store.proofs.Waits.{respond-waits, respond-granted}
-use Rattle.demands.specs.Calls.{Call, replyTo, refusalsTo, doneTo}
+use Rattle.store.specs.Calls.{Call, replyTo}
+use Rattle.demands.specs.Calls.{refusalsTo, doneTo}
 use Rattle.demands.specs.History.{events}
 use Rattle.demands.specs.Locking.{Moves}
 use Rattle.demands.specs.Run.{Run, storeIn, kindIn, startIn, historyIn, lockingIn}

@@ -31,7 +31,7 @@ use Rattle.store.specs.Refusal.{decide}
 use Rattle.store.specs.Open.{openOf}
 use Rattle.store.proofs.Kept.{open-kept}
 use Rattle.store.proofs.Sizes.{open-sized}
-use Rattle.demands.specs.Calls.{Call, respond, commit, abort}
+use Rattle.store.specs.Calls.{Call, respond, commit, abort}
 use Rattle.demands.specs.Run.{Run, kindIn, startIn, historyIn}
 use Rattle.demands.specs.Cases.{root, under, plain-under, withdraw}
 use Rattle.demands.proofs.ObjectRows.{seenBy}

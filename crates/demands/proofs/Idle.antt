@@ -21,7 +21,7 @@ use Rattle.store.proofs.Effects.{respond-does}
 use Rattle.store.proofs.Opens.{open-lists}
 use Rattle.store.proofs.Sizes.{open-sized, create-sized}
 use Rattle.store.proofs.Waits.{respond-waits}
-use Rattle.demands.specs.Calls.{Call, respond, commit, replyTo, answersTo}
+use Rattle.store.specs.Calls.{Call, respond, commit, replyTo, answersTo}
 use Rattle.demands.specs.Cases.{Case, start, Holds, AllHold, table, root, under, withdraw, done, OK, FAIL}
 use Rattle.demands.proofs.Cases.{drained-holds, starred}
 

@@ -26,7 +26,7 @@ use Rattle.store.specs.Effects.{Sized}
 use Rattle.store.proofs.Sizes.{open-sized}
 use Rattle.store.proofs.Kept.{open-kept, kind-at, opening-at}
 use Rattle.store.proofs.Opens.{few, opened-or-empty}
-use Rattle.demands.specs.Calls.{Call, replyTo, after}
+use Rattle.store.specs.Calls.{Call, replyTo, after}
 use Rattle.demands.specs.History.{events, historyFrom}
 use Rattle.demands.specs.Locking.{lockingOf, Moves}
 use Rattle.demands.specs.Run.{Run, openedIn, storeIn, kindIn, startIn, historyIn}

@@ -3,7 +3,7 @@
 use Rattle.promise.specs.Sole.{Gives, AsksNothing}
 use Rattle.store.specs.Open.{openOf}
 use Rattle.store.proofs as of
-use Rattle.demands.specs.Calls.{create, respond, commit, abort, replyTo}
+use Rattle.store.specs.Calls.{create, respond, commit, abort, replyTo}
 
 pub opens : Gives 1 of.Store.«open».Kinds.ps of.Store.«open».Kinds.r of.Store.«open».Reads.Learnt (λ κs a. openOf (a .0 .now) (a .1 .0 .now))
 opens κs a x e learnt = learnt

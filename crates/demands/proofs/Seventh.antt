@@ -23,7 +23,7 @@ use Rattle.store.specs.Refusal.{decide}
 use Rattle.store.specs.Open.{openOf}
 use Rattle.store.proofs.Kept.{open-kept}
 use Rattle.store.proofs.Sizes.{open-sized}
-use Rattle.demands.specs.Calls.{Call, respond, commit}
+use Rattle.store.specs.Calls.{Call, respond, commit}
 use Rattle.demands.specs.Run.{Run, kindIn, historyIn, lockingIn}
 use Rattle.demands.specs.Cases.{start, root, under, write}
 use Rattle.demands.proofs.Reached.{reached}

@@ -21,7 +21,7 @@ use Rattle.store.specs.Create.{createOf}
 use Rattle.store.specs.Respond.{respondOf}
 use Rattle.store.specs.Finish.{commitOf, abortOf}
 use Rattle.store.specs.Effects.{rowOf, Sized}
-use Rattle.demands.specs.Calls.{Call, create, respond, commit, abort, replyTo}
+use Rattle.store.specs.Calls.{Call, create, respond, commit, abort, replyTo}
 use Rattle.demands.specs.History.{accessIn, outcomeFor, roleOf, events}
 use Rattle.demands.proofs.ObjectRows.{away-role, seenBy}
 use Rattle.demands.proofs.Access.{access-asked, asked-access}

@@ -24,7 +24,7 @@ use Rattle.store.specs.Effects.{rowOf, inState, Responds, Sized}
 use Rattle.store.proofs.Facts.{Form, form-facts}
 use Rattle.store.proofs.Answers.{create-decided}
 use Rattle.store.proofs.Effects.{create-does, respond-does, commit-does, abort-does}
-use Rattle.demands.specs.Calls.{Call, replyTo}
+use Rattle.store.specs.Calls.{Call, replyTo}
 use Rattle.demands.specs.History.{outcomeFor, roleOf, events}
 use Rattle.demands.proofs.Calls.{answers}
 use Rattle.demands.proofs.ObjectRows.{row-by-row, roleIn, new-role, replyIn, no-reply, away-reply, seenBy}

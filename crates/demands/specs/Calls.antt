@@ -1,29 +1,15 @@
--- Calls on a store, one after another. Source: document 01, "Calls, answers and their order"; document 00, 1.
+-- What is said of any call. Source: document 01, "Calls, answers and their order"; document 00, 1.
 use Prim.Native.Nat.{ℕ, _+_}
 use mathlib.Core.List.{List, [], _∷_}
 use lib.IntN.{pos}
 use Rattle.store.specs.declared.Store.{Store}
-use Rattle.store.specs.declared.Answer.{Answer}
 use Rattle.store.specs.declared.Reply.{Reply}
-use Rattle.store.specs.declared.Child.{Child}
 use Rattle.store.specs.Refusal.{Refusal, answerOf, replyOf}
-use Rattle.store.specs.Create.{requestOf, created, createRefusals, createOf}
-use Rattle.store.specs.Respond.{askingOf, resultOf, responded, respondRefusals, respondOf}
+use Rattle.store.specs.Create.{requestOf, created, createRefusals}
+use Rattle.store.specs.Respond.{askingOf, resultOf, responded, respondRefusals}
 use Rattle.store.specs.Effects.{Creates, Responds, Commits, Aborts}
-use Rattle.store.specs.Finish.{committed, commitRefusals, commitOf, aborted, abortRefusals, abortOf}
-
-pub data Call : Type 0 where
-  create : ℕ → Child → Call
-  respond : ℕ → Call
-  commit : ℕ → Call
-  abort : ℕ → Call
-
--- what the code's call of that name is proved to hand back
-abbrev pub replyTo : Store → Call → Reply
-replyTo s (create p child) = createOf s p child
-replyTo s (respond t) = respondOf s t
-replyTo s (commit t) = commitOf s t
-replyTo s (abort t) = abortOf s t
+use Rattle.store.specs.Finish.{committed, commitRefusals, aborted, abortRefusals}
+use Rattle.store.specs.Calls.{Call, create, respond, commit, abort}
 
 -- its refusals in document 01's order, and what it hands back where none holds
 abbrev pub refusalsTo : Store → Call → List Refusal
@@ -51,13 +37,3 @@ codesFor (create p child) = 15 ∷ 1 ∷ 3 ∷ 4 ∷ 5 ∷ 6 ∷ 7 ∷ 8 ∷ 0 �
 codesFor (respond t) = 15 ∷ 1 ∷ 2 ∷ 9 ∷ 4 ∷ 5 ∷ 10 ∷ 13 ∷ 0 ∷ []
 codesFor (commit t) = 15 ∷ 1 ∷ 2 ∷ 4 ∷ 5 ∷ 11 ∷ 12 ∷ 0 ∷ []
 codesFor (abort t) = 15 ∷ 1 ∷ 2 ∷ 4 ∷ 5 ∷ 0 ∷ []
-
--- the store after the calls, accepted or refused, the first of the list first
-unfoldable pub after : Store → List Call → Store
-after s [] = s
-after s (c ∷ calls) = after (replyTo s c .store) calls
-
--- their answers
-unfoldable pub answersTo : Store → List Call → List Answer
-answersTo s [] = []
-answersTo s (c ∷ calls) = replyTo s c .answer ∷ answersTo (replyTo s c .store) calls

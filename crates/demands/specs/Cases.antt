@@ -10,7 +10,7 @@ use Rattle.store.specs.declared.Request.{Request}
 use Rattle.store.specs.declared.Child.the-variants.{Plain, Access}
 use Rattle.store.specs.Refusal.{answerOf}
 use Rattle.store.specs.Open.{openOf}
-use Rattle.demands.specs.Calls.{Call, create, respond, commit, abort, answersTo}
+use Rattle.store.specs.Calls.{Call, create, respond, commit, abort, answersTo}
 
 -- a run, and the answers that its calls are to have
 pub record Case : Type 0 where

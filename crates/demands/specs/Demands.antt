@@ -29,7 +29,8 @@ use Rattle.store.specs.Refusal.{answerOf, replyOf}
 use Rattle.store.specs.Respond.{askRefusals, respondOf}
 use Rattle.store.specs.Effects.{Sized}
 use Rattle.store.specs.Claims.{Decided, Blocked, Waits, Granted}
-use Rattle.demands.specs.Calls.{Call, replyTo, refusalsTo, doneTo, Does, codesFor}
+use Rattle.store.specs.Calls.{Call, replyTo}
+use Rattle.demands.specs.Calls.{refusalsTo, doneTo, Does, codesFor}
 use Rattle.demands.specs.History.{outcomeFor, events}
 use Rattle.demands.specs.Locking.{Moves}
 use Rattle.demands.specs.Run.{Run, openedIn, storeIn, kindIn, startIn, historyIn, lockingIn}

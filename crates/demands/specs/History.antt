@@ -19,7 +19,7 @@ use Rattle.store.specs.declared.Store.{Store}
 use Rattle.store.specs.declared.Answer.{Answer}
 use Rattle.store.specs.declared.Child.{Child}
 use Rattle.store.specs.declared.Child.the-variants.{Plain, Access}
-use Rattle.demands.specs.Calls.{Call, create, respond, commit, abort, replyTo}
+use Rattle.store.specs.Calls.{Call, create, respond, commit, abort, replyTo}
 
 -- the outcome that a and b stand for: a is 1 for OK, 0 for FAIL, 2 for a value; b is the value. No other numbers are handed out (`handed-out`).
 abbrev pub outcomeFor : ℕ → ℤ → Outcome

@@ -11,7 +11,7 @@ use Rattle.serial.specs.Object.{objectOf}
 use Rattle.columns.specs.Column.{at, atZ}
 use Rattle.store.specs.declared.Store.{Store}
 use Rattle.store.specs.Open.{openOf}
-use Rattle.demands.specs.Calls.{Call, after}
+use Rattle.store.specs.Calls.{Call, after}
 use Rattle.demands.specs.History.{historyFrom}
 use Rattle.demands.specs.Locking.{lockingOf}
 

@@ -12,3 +12,4 @@ pub mod Answers
 pub mod Waits
 pub mod Effects
 pub mod Sole
+pub mod Calls

@@ -8,3 +8,4 @@ pub mod Finish
 pub mod Open
 pub mod Effects
 pub mod Claims
+pub mod Calls
