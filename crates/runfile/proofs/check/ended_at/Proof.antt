@@ -1,0 +1,12 @@
+use borrow.Author.Tests.{eq-eqb, ne-eqb}
+use Rattle.runfile.proofs.check.ended_at.Statement.{statement}
+use Rattle.runfile.proofs.check.ended_at.Tie as tie
+
+returns : tie.Need-returns
+returns c = simp (eq-eqb _ _ (c .if1 .taken))
+
+returns-2 : tie.Need-returns-2
+returns-2 c = simp (ne-eqb _ _ (c .if1 .left))
+
+pub ended-at-spec : {M : Type 1} → statement M
+ended-at-spec = tie.close (tie.spec returns returns-2)

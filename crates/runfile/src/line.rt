@@ -1,0 +1,130 @@
+// The lines of the file's two sections.
+ghost use mathlib.Core.Path.{_≡_};
+ghost use lib.IntN.{pos};
+ghost use Rattle.runfile.specs.Line.{letterAt, isKind, singleOf, accessAt, objectAt, callAt};
+use crate::number::LINE_END;
+use crate::number::Number;
+use crate::number::SPACE;
+use crate::number::number_at;
+
+// What a call line asks.
+pub enum Call {
+    // N: the parent.
+    Plain(u32),
+    // U: parent, object, operation and argument.
+    Access(u32, u32, u32, i64),
+    // G, C and B: the transaction.
+    Respond(u32),
+    Commit(u32),
+    Abort(u32),
+}
+
+// A call line that was read, with the place of the next line.
+pub enum CallLine {
+    Call(Call, usize),
+    Wrong,
+}
+
+// An object line that was read: its kind's letter and its opening, with the place of the next line.
+pub enum ObjectLine {
+    Object(u8, i64, usize),
+    Wrong,
+}
+
+fn signed(v: u32) -> i64
+    ensures { λ r. ⌜ r ≡ pos v ⌝ }
+{
+    v as i64
+}
+
+fn is_kind(letter: u8) -> bool
+    ensures { λ r. ⌜ r ≡ isKind letter ⌝ }
+{
+    letter == b'A' || letter == b'R'
+}
+
+// The byte at a place where a space follows it, and 0 elsewhere.
+fn letter_at(file: &[u8], at: usize) -> u8
+    ensures { λ r. ⌜ r ≡ letterAt (now (file .entry)) at ⌝ }
+{
+    if file.len() <= at {
+        return 0;
+    }
+    let after = at + 1;
+    if file.len() <= after {
+        return 0;
+    }
+    if file[after] == SPACE { file[at] } else { 0 }
+}
+
+// The call of a line with one number.
+fn single(letter: u8, t: u32, next: usize) -> CallLine
+    ensures { λ r. ⌜ r ≡ singleOf letter t next ⌝ }
+{
+    if letter == b'N' {
+        return CallLine::Call(Call::Plain(t), next);
+    }
+    if letter == b'G' {
+        return CallLine::Call(Call::Respond(t), next);
+    }
+    if letter == b'C' {
+        return CallLine::Call(Call::Commit(t), next);
+    }
+    if letter == b'B' {
+        return CallLine::Call(Call::Abort(t), next);
+    }
+    CallLine::Wrong
+}
+
+// The four numbers of an access, from the first on.
+fn access_at(file: &[u8], at: usize) -> CallLine
+    ensures { λ r. ⌜ r ≡ accessAt (now (file .entry)) at ⌝ }
+{
+    let Number::Value(parent, object_at) = number_at(file, at, SPACE) else {
+        return CallLine::Wrong;
+    };
+    let Number::Value(object, operation_at) = number_at(file, object_at, SPACE) else {
+        return CallLine::Wrong;
+    };
+    let Number::Value(operation, argument_at) = number_at(file, operation_at, SPACE) else {
+        return CallLine::Wrong;
+    };
+    let Number::Value(argument, next) = number_at(file, argument_at, LINE_END) else {
+        return CallLine::Wrong;
+    };
+    CallLine::Call(
+        Call::Access(parent, object, operation, signed(argument)),
+        next,
+    )
+}
+
+pub fn call_at(file: &[u8], at: usize) -> CallLine
+    ensures { λ r. ⌜ r ≡ callAt (now (file .entry)) at ⌝ }
+{
+    let letter = letter_at(file, at);
+    if letter == 0 {
+        return CallLine::Wrong;
+    }
+    let from = at + 2;
+    if letter == b'U' {
+        return access_at(file, from);
+    }
+    let Number::Value(t, next) = number_at(file, from, LINE_END) else {
+        return CallLine::Wrong;
+    };
+    single(letter, t, next)
+}
+
+pub fn object_at(file: &[u8], at: usize) -> ObjectLine
+    ensures { λ r. ⌜ r ≡ objectAt (now (file .entry)) at ⌝ }
+{
+    let letter = letter_at(file, at);
+    if !is_kind(letter) {
+        return ObjectLine::Wrong;
+    }
+    let from = at + 2;
+    let Number::Value(opening, next) = number_at(file, from, LINE_END) else {
+        return ObjectLine::Wrong;
+    };
+    ObjectLine::Object(letter, signed(opening), next)
+}
