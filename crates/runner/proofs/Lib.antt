@@ -1,0 +1,5 @@
+pub mod Columns
+pub mod Lines
+pub mod Opening
+pub mod Sole
+pub mod Printed
