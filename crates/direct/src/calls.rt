@@ -1,0 +1,51 @@
+// The store's calls, each with its answer printed. Nothing is asked of the store that comes in.
+use crate::show::print;
+use crate::show::shown;
+use store::Child;
+use store::Request;
+use store::Store;
+
+pub(crate) const ACCOUNT: u32 = 0;
+
+pub(crate) const REGISTER: u32 = 1;
+
+pub(crate) const BALANCE: u32 = 1;
+
+pub(crate) const DEPOSIT: u32 = 2;
+
+pub(crate) const WITHDRAW: u32 = 3;
+
+pub(crate) const READ: u32 = 4;
+
+pub(crate) const WRITE: u32 = 5;
+
+// The store that each starts with: `A 10` is object 0, `R 7` object 1.
+pub(crate) fn begin(heading: &[u8]) -> Store {
+    print(heading);
+    shown(Store::open(b"AR", &[10, 7]))
+}
+
+pub(crate) fn plain(s: Store, parent: u32) -> Store {
+    shown(s.create(parent, Child::Plain))
+}
+
+pub(crate) fn access(s: Store, parent: u32, object: u32, operation: u32, argument: i64) -> Store {
+    let request = Request {
+        object: object,
+        operation: operation,
+        argument: argument,
+    };
+    shown(s.create(parent, Child::Access(request)))
+}
+
+pub(crate) fn respond(s: Store, t: u32) -> Store {
+    shown(s.respond(t))
+}
+
+pub(crate) fn commit(s: Store, t: u32) -> Store {
+    shown(s.commit(t))
+}
+
+pub(crate) fn abort(s: Store, t: u32) -> Store {
+    shown(s.abort(t))
+}
