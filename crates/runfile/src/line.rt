@@ -102,6 +102,7 @@ pub fn call_at(file: &[u8], at: usize) -> CallLine
     ensures { λ r. ⌜ r ≡ callAt (now (file .entry)) at ⌝ }
 {
     let letter = letter_at(file, at);
+    // Without a letter, nothing says that two bytes are there to go past.
     if letter == 0 {
         return CallLine::Wrong;
     }

@@ -10,13 +10,12 @@ use lib.ListN.{length, length-append}
 use borrow.Author.Tests.{ne-eqb}
 use Rattle.below.proofs.Tests.{bool-or, same-or, le-or}
 use Rattle.serial.specs.Kinds.{kindOf}
-use Rattle.serial.specs.declared.Kind.the-variants.{Unknown}
 use Rattle.runfile.specs.Written.{bytesMost, joined, KindLetter}
 use Rattle.runfile.specs.File.{File, good, bad, fileOf}
 use Rattle.runfile.proofs.Reading.{read-exactly, first-wrong, too-long}
 use Rattle.store.specs.declared.Answer.{Answer}
 use Rattle.store.specs.Open.{openable}
-use Rattle.runner.specs.Output.{answersOf, lineOf, outputOf, Prints, tooLong, wrong, refused, answers}
+use Rattle.runner.specs.Output.{answersOf, lineOf, outputOf, NamesKind, Prints, tooLong, wrong, refused, answers}
 use Rattle.runner.proofs.Lines.{output-line, output-answers}
 use Rattle.runner.proofs.Opening.{letters, openings, opens-exactly, opening-refused, opening-done}
 
@@ -59,7 +58,7 @@ unfolding outputOf
 prints-some s = some-joined (answersOf (fileOf s)) (some-answer (fileOf s))
 
 -- the letters of a file are those of the kinds
-pub letters-kinds : (letter : ℕ) → KindLetter letter ↔ (kindOf letter ≡ Unknown → ⊥)
+pub letters-kinds : (letter : ℕ) → KindLetter letter ↔ NamesKind letter
 unfolding kindOf
 letters-kinds letter = (
   ⊎-elim

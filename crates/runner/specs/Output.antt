@@ -14,6 +14,7 @@ use Rattle.runfile.specs.File.{File, good, bad, fileOf}
 use Rattle.runfile.specs.declared.line.Call as L
 use Rattle.runfile.specs.declared.line.Call.the-variants.{Plain, Access, Respond, Commit, Abort}
 use Rattle.serial.specs.Kinds.{kindOf, openedOf, opens}
+use Rattle.serial.specs.declared.Kind.the-variants.{Unknown}
 use Rattle.store.specs.declared.Answer.{Answer}
 use Rattle.store.specs.declared.Reply.{Reply}
 use Rattle.store.specs.declared.Child.the-variants as C
@@ -48,6 +49,10 @@ lineOf answer = answerText (answer .code) (answer .a) (answer .b)
 -- what the runner prints on a file's bytes
 unfoldable pub outputOf : List ℕ → List ℕ
 outputOf s = joined lineOf (answersOf (fileOf s))
+
+-- the letter of a kind that the store knows
+abbrev pub NamesKind : ℕ → Type 0
+NamesKind letter = kindOf letter ≡ Unknown → ⊥
 
 -- some object, and each opening in its kind's range
 abbrev pub Opens : List Object → Type 0

@@ -18,11 +18,7 @@ use Rattle.store.specs.Create.{createOf}
 use Rattle.store.specs.Respond.{respondOf}
 use Rattle.store.specs.Finish.{commitOf, abortOf}
 use Rattle.store.specs.Open.{openable, openOf}
-use Rattle.store.specs.Calls.{Call, create, respond, commit, abort, replyTo}
-
--- the highest code of a store's call or opening
-abbrev pub codeMost : ℕ
-codeMost = 15
+use Rattle.store.specs.Calls.{Call, create, respond, commit, abort, codeMost, replyTo}
 
 abbrev low : List ℕ → Bool
 low [] = true

@@ -15,6 +15,10 @@ pub data Call : Type 0 where
   commit : ℕ → Call
   abort : ℕ → Call
 
+-- the highest code of a call or an opening; 16 is the program's
+abbrev pub codeMost : ℕ
+codeMost = 15
+
 -- what the code's call of that name is proved to hand back
 abbrev pub replyTo : Store → Call → Reply
 replyTo s (create p child) = createOf s p child

@@ -24,7 +24,7 @@ use Rattle.runfile.proofs.Cases.{cases}
 use Rattle.runfile.proofs.written.Standing.{Stands, stands-first, stands-then, stands-before, stands-behind, stands-all}
 use Rattle.runfile.proofs.written.Line.{objects}
 use Rattle.runfile.proofs.written.Call.{calls}
-use Rattle.runfile.proofs.written.Read.{Whole, Stop, stop-here, stop-early}
+use Rattle.runfile.proofs.written.Read.{ReadWhole, Stop, stop-here, stop-early}
 use Rattle.runfile.proofs.written.Section.{Holds, partAt, SectionText, section-read, section-through, section-items, stop-section}
 
 pub holds-objects : Holds Objects objectItem objectText ObjectFits
@@ -106,7 +106,7 @@ abbrev pub Halt : List ℕ → Type 0
 Halt s = Stop IsRunFile (λ f place line. layoutFrom f place ≡ Bad line) s 0
 
 -- more follows the calls
-stop-end : {s : List ℕ} {at : ℕ} (v : Whole CallsText s at) → v .behind < length s
+stop-end : {s : List ℕ} {at : ℕ} (v : ReadWhole CallsText s at) → v .behind < length s
     → Stop CallsText (λ f place line. (objects : Part) → callsLayout f objects place ≡ Bad line) s at
 stop-end {s} {at} v more =
     stop-section holds-calls {Good = λ t. t ≡ []} {Halts = λ f place line. (layout : Layout) → endedAt f layout place ≡ Bad line} v

@@ -47,7 +47,7 @@ none-shared {A} {line} {text} {Fits} kind s f i j share e = go (line f j) refl
         nothing (sym e ∙ kind .read s i a (i + length (text a)) .1 (w .0, stands s i (text a) (b .0) (b .1)))
 
 -- Good says which texts are read, and Halts at which line the reading of a file from a place halts.
-pub record Whole (Good : List ℕ → Type 0) (s : List ℕ) (at : ℕ) : Type 0 where
+pub record ReadWhole (Good : List ℕ → Type 0) (s : List ℕ) (at : ℕ) : Type 0 where
   pub text : List ℕ
   pub good : Good text
   pub behind : ℕ
@@ -64,7 +64,7 @@ pub record Stop (Good : List ℕ → Type 0) (Halts : List ℕ → Place → ℕ
   pub halts : (f : List ℕ) (place : Place) (e : ℕ) → Stands f (place .at) before e → Shares s behind f e → Halts f place (place .line + count)
 
 abbrev pub Read : (List ℕ → Type 0) → (List ℕ → Place → ℕ → Type 0) → List ℕ → ℕ → Type 0
-Read Good Halts s at = Whole Good s at ⊎ Stop Good Halts s at
+Read Good Halts s at = ReadWhole Good s at ⊎ Stop Good Halts s at
 
 -- it stops at once
 pub stop-here : {Good : List ℕ → Type 0} {Halts : List ℕ → Place → ℕ → Type 0} {s : List ℕ} {at : ℕ} (text : List ℕ) → Good text

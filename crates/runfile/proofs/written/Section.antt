@@ -20,7 +20,7 @@ use Rattle.runfile.proofs.Cases.{cases}
 use Rattle.runfile.proofs.written.Standing.{Stands, stands-none, stands-before, stands-behind, stands-as}
 use Rattle.runfile.proofs.written.Lines.{lines-append, lines-as}
 use Rattle.runfile.proofs.written.Line.{LineKind, countItem, countText, counts, count-value, count-wrong}
-use Rattle.runfile.proofs.written.Read.{shares-self, none-shared, Whole, Stop, Read, stop-here, stop-after, read-after}
+use Rattle.runfile.proofs.written.Read.{shares-self, none-shared, ReadWhole, Stop, Read, stop-here, stop-after, read-after}
 
 -- the lines that a section holds; some line fits
 pub record Holds (section : Section) {A : Type 0} (line : List ℕ → ℕ → Item A) (text : A → List ℕ) (Fits : A → Type 0) : Type 0 where
@@ -166,7 +166,7 @@ module _ {section : Section} {A : Type 0} {line : List ℕ → ℕ → Item A} {
         items-through s xs (at + length first) e (there .fits) (stands-behind first (joined text xs) (stands-as (there .is) t))
 
   -- what comes after a section stops
-  pub stop-section : {Good Good′ : List ℕ → Type 0} {Halts Halts′ : List ℕ → Place → ℕ → Type 0} {s : List ℕ} {at : ℕ} (w : Whole SectionText s at)
+  pub stop-section : {Good Good′ : List ℕ → Type 0} {Halts Halts′ : List ℕ → Place → ℕ → Type 0} {s : List ℕ} {at : ℕ} (w : ReadWhole SectionText s at)
       → ((t : List ℕ) → Good t → Good′ (w .text ++ t))
       → ((f : List ℕ) (place : Place) (l : ℕ) (part : Part) (end : Place) → sectionAt f section place ≡ S.After part end → Halts f end l → Halts′ f place l)
       → Stop Good Halts s (w .behind) → Stop Good′ Halts′ s at
