@@ -12,9 +12,6 @@ word8 κs a x y s t = sole
 at16 : Sole 1 of.tree.at16.Kinds.ps of.tree.at16.Kinds.r of.tree.at16.Reads.Learnt
 at16 κs a x y s t = sole
 
-at-or-above : Sole 1 of.tree.at_or_above.Kinds.ps of.tree.at_or_above.Kinds.r of.tree.at_or_above.Reads.Learnt
-at-or-above κs a x y s t = sole
-
 aborted-above : Sole 1 of.tree.aborted_above.Kinds.ps of.tree.aborted_above.Kinds.r of.tree.aborted_above.Reads.Learnt
 aborted-above κs a x y s t = sole
 

@@ -24,21 +24,6 @@ pub fn at16(column: &[u16; ROWS], k: usize) -> usize
     wide16(column[k])
 }
 
-// Whether h is x or above it.
-pub fn at_or_above(parent: &[u16; ROWS], x: usize, h: usize) -> bool
-    requires { ⌜ (x < rowsMost) × Lower (x + 1) (at (now parent)) ⌝ }
-    ensures { λ r. ⌜ r ≡ atOrAbove (now (parent .entry)) x h ⌝ }
-{
-    let mut y = x;
-    while y != h {
-        if y == 0 {
-            return false;
-        }
-        y = at16(parent, y);
-    }
-    true
-}
-
 // Whether some transaction at or above x has aborted.
 pub fn aborted_above<'a>(parent: &'a [u16; ROWS], state: &'a [u8; ROWS], x: usize) -> bool
     requires { ⌜ (x < rowsMost) × Lower (x + 1) (at (now parent)) ⌝ }

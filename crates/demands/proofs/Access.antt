@@ -1,19 +1,15 @@
 -- Which transactions a history has as accesses to its object.
 use Prim.Native.Nat.{ℕ}
 use mathlib.Core.Path.{_≡_, refl, sym, ap, _∙_}
-use mathlib.Core.Bool.{Bool, true, false, _&&_, _||_, false≢true, or-true}
-use mathlib.Core.Logic.{_⊎_, inl, inr, ⊎-elim}
+use mathlib.Core.Bool.{true, false, _&&_, false≢true, or-true}
+use mathlib.Core.Logic.{⊎-elim}
 use mathlib.Core.List.{[], _∷_, List·Memᴰ·head, List·Memᴰ·tail, List·Memᴰ·not-nil, List·Memᴰ·cases-cons}
 use lib.Dec.{eqb}
 use borrow.Author.Tests.{eq-eqb, eqb-true}
-use Rattle.below.proofs.Tests.{and-fst, and-snd}
+use Rattle.below.proofs.Tests.{and-fst, and-snd, or-cases}
 use Rattle.theory.specs.Serial.{Serial}
 use Rattle.theory.specs.History.{_∈_, Role, other, access, Event, created, responded, committed, aborted, History, Asked}
 use Rattle.demands.specs.History.{isAccess, accessIn}
-
-or-cases : (a b : Bool) → (a || b) ≡ true → (a ≡ true) ⊎ (b ≡ true)
-or-cases true b e = inl refl
-or-cases false b e = inr e
 
 module _ {S : Serial} where
   is-access : (r : Role S) → isAccess r ≡ true → (a : S .Ask) × (r ≡ access a)

@@ -8,8 +8,8 @@ use native.Mathlib.Omega.{arith}
 use lib.ListN.{List·getD-append}
 use borrow.Author.Tests.{not-false}
 use Rattle.store.specs.declared.Store.{Store}
-use Rattle.store.specs.Refusal.{refuse}
-use Rattle.store.specs.Exact.{nth, FirstToHold, NoneHolds}
+use Rattle.refusal.specs.Refusal.{refuse}
+use Rattle.refusal.specs.Exact.{nth, FirstToHold, NoneHolds}
 use Rattle.store.specs.Claims.{Blocked, Waits}
 use Rattle.store.specs.Respond.{askingOf, waitFor, mustWait, askRefusals, respondRefusals, respondOf}
 use Rattle.store.proofs.Answers.{respond-decided}

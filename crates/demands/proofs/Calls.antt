@@ -11,16 +11,18 @@ use Rattle.below.proofs.Tests.{bool-or, same-or}
 use Rattle.theory.specs.History.{_∈_}
 use Rattle.store.specs.declared.Store.{Store}
 use Rattle.store.specs.declared.Reply.{Reply}
-use Rattle.store.specs.declared.Child.the-variants.{Plain, Access}
+use Rattle.refusal.specs.declared.Child.the-variants.{Plain, Access}
 use Rattle.store.specs.Form.{inForm}
-use Rattle.store.specs.Refusal.{Refusal, answerOf, replyOf, decide}
-use Rattle.store.specs.Exact.{codesOf}
+use Rattle.refusal.specs.Refusal.{Refusal, answerOf}
+use Rattle.store.specs.Refusal.{replyOf, decide}
+use Rattle.refusal.specs.Exact.{codesOf}
 use Rattle.store.specs.Claims.{Decided}
 use Rattle.store.specs.Effects.{SameObjects, Sized}
 use Rattle.store.specs.Create.{createOf}
 use Rattle.store.specs.Respond.{respondOf}
 use Rattle.store.specs.Finish.{commitOf, abortOf}
-use Rattle.store.specs.Open.{emptyStore, openable, openedStore, openOf}
+use Rattle.refusal.specs.Open.{openable}
+use Rattle.store.specs.Open.{emptyStore, openedStore, openOf}
 use Rattle.store.proofs.Answers.{create-decided, respond-decided, commit-decided, abort-decided}
 use Rattle.store.proofs.Effects.{create-does, respond-does, commit-does, abort-does}
 use Rattle.store.proofs.Sizes.{create-sized, respond-sized, commit-sized, abort-sized}

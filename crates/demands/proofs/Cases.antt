@@ -5,15 +5,16 @@ use mathlib.Core.Bool.{true}
 use mathlib.Core.List.{List, [], _∷_, map, tail, head-eq-of-cons-eq, tail-eq-of-cons-eq}
 use Rattle.below.specs.Below.{anyBelow, allBelow, firstBelow, setBelow}
 use Rattle.below.specs.Climb.{climb, climbIn, upAny}
-use Rattle.serial.specs.Kinds.{kindOf, entry}
+use Rattle.kinds.specs.Kinds.{kindOf, entry}
 use Rattle.columns.specs.Work.{work, only, laid, numbered}
 use Rattle.replay.specs.View.{afterAll}
 use Rattle.store.specs.declared.Store.{Store}
-use Rattle.store.specs.declared.Answer.{Answer}
+use Rattle.refusal.specs.declared.Answer.{Answer}
 use Rattle.store.specs.declared.Reply.{Reply}
 use Rattle.store.specs.Form.{inForm}
 use Rattle.store.specs.Effects.{Sized}
-use Rattle.store.specs.Refusal.{Refusal, decide, malformed}
+use Rattle.refusal.specs.Refusal.{Refusal}
+use Rattle.store.specs.Refusal.{decide, malformed}
 use Rattle.store.specs.Open.{openOf}
 use Rattle.store.proofs.Refusals.{next}
 use Rattle.store.proofs.Kept.{open-kept}

@@ -12,8 +12,8 @@ use Rattle.theory.proofs.Tree.{root-alive}
 use Rattle.theory.proofs.Rows.{Rows}
 use Rattle.theory.proofs.Agree.{known-within, within-known, asked-row, row-asked}
 use Rattle.theory.proofs.Atomic.{total-is-work, dynamic-atomic, total-legal}
-use Rattle.serial.specs.Object.{objectOf}
-use Rattle.serial.proofs.Claims.{passes-commute}
+use Rattle.kinds.specs.Object.{objectOf}
+use Rattle.kinds.proofs.Claims.{passes-commute}
 use Rattle.columns.specs.Column.{at}
 use Rattle.store.specs.declared.Store.{Store}
 use Rattle.store.specs.declared.Reply.{Reply}

@@ -18,12 +18,12 @@ use Rattle.theory.proofs.Agree.{asked-row}
 use Rattle.theory.proofs.Decide.{root-above}
 use Rattle.theory.proofs.Grow.{answered-known, same-step}
 use Rattle.theory.proofs.Tree.{access-other, above-trans, one-step}
-use Rattle.serial.specs.declared.Operation.the-variants as O
-use Rattle.serial.specs.declared.account.AccountOperation.the-variants.{Withdraw}
-use Rattle.serial.specs.declared.outcome.Outcome.the-variants.{Ok}
-use Rattle.serial.specs.Kinds.{kindOf, entry}
-use Rattle.serial.specs.Object.{objectOf}
-use Rattle.serial.proofs.Outcomes.{ok-not-fail}
+use Rattle.kinds.specs.declared.Operation.the-variants as O
+use Rattle.kinds.specs.declared.account.AccountOperation.the-variants.{Withdraw}
+use Rattle.kinds.specs.declared.outcome.Outcome.the-variants.{Ok}
+use Rattle.kinds.specs.Kinds.{kindOf, entry}
+use Rattle.kinds.specs.Object.{objectOf}
+use Rattle.kinds.proofs.Outcomes.{ok-not-fail}
 use Rattle.columns.specs.Work.{work, only, laid, numbered}
 use Rattle.replay.specs.View.{afterAll}
 use Rattle.store.specs.declared.Store.{Store}

@@ -8,10 +8,10 @@ use lib.ListN.{getD, length}
 use Rattle.columns.specs.Column.{at}
 use Rattle.columns.specs.Work.{Found}
 use Rattle.store.specs.declared.Store.{Store}
-use Rattle.store.specs.declared.Answer.{Answer}
-use Rattle.store.specs.declared.Request.{Request}
-use Rattle.store.specs.declared.Child.{Child}
-use Rattle.store.specs.declared.Child.the-variants.{Access}
+use Rattle.refusal.specs.declared.Answer.{Answer}
+use Rattle.refusal.specs.declared.Request.{Request}
+use Rattle.refusal.specs.declared.Child.{Child}
+use Rattle.refusal.specs.declared.Child.the-variants.{Access}
 use Rattle.store.specs.Lists.{listOf}
 use Rattle.store.specs.Create.{createOf}
 use Rattle.store.specs.Respond.{respondOf}

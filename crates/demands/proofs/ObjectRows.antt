@@ -9,24 +9,24 @@ use lib.IntN.{ℤ}
 use lib.ListN.{replicate, List·getD-eq-default}
 use lib.Dec.{eqb}
 use borrow.Author.Tests.{eq-eqb, ne-eqb}
-use Rattle.below.proofs.Tests.{same-or, le-or}
+use Rattle.below.proofs.Tests.{same-or, le-or, cond-same}
 use Rattle.below.proofs.Column.{filled-at}
 use Rattle.theory.specs.History.{Role, other}
 use Rattle.theory.proofs.Rows.{Got, nothing, got, Rows, Unwritten}
-use Rattle.serial.specs.declared.Kind.{Kind}
-use Rattle.serial.specs.declared.Kind.the-variants.{Account, Register, Unknown}
-use Rattle.serial.specs.declared.Answered.{Answered}
-use Rattle.serial.specs.declared.Decoded.{Decoded}
-use Rattle.serial.specs.declared.Decoded.the-variants.{Fit, Unfit}
-use Rattle.serial.specs.Kinds.{decodeOf}
-use Rattle.serial.specs.Object.{objectOf}
+use Rattle.kinds.specs.declared.Kind.{Kind}
+use Rattle.kinds.specs.declared.Kind.the-variants.{Account, Register, Unknown}
+use Rattle.kinds.specs.declared.Answered.{Answered}
+use Rattle.kinds.specs.declared.Decoded.{Decoded}
+use Rattle.kinds.specs.declared.Decoded.the-variants.{Fit, Unfit}
+use Rattle.kinds.specs.Kinds.{decodeOf}
+use Rattle.kinds.specs.Object.{objectOf}
 use Rattle.columns.specs.Column.{at, rowsMost}
 use Rattle.replay.specs.declared.access.Recorded.{Recorded}
 use Rattle.replay.specs.declared.access.Recorded.the-variants.{As, Nothing}
 use Rattle.replay.specs.Access.{recordedOf, recordIn}
 use Rattle.store.specs.declared.Store.{Store}
-use Rattle.store.specs.declared.Child.{Child}
-use Rattle.store.specs.declared.Child.the-variants.{Plain, Access}
+use Rattle.refusal.specs.declared.Child.{Child}
+use Rattle.refusal.specs.declared.Child.the-variants.{Plain, Access}
 use Rattle.store.specs.Form.{inForm}
 use Rattle.store.specs.Create.{requestOf}
 use Rattle.store.specs.Effects.{Row, rowOf, newRow, Sized}
@@ -45,10 +45,6 @@ unfit-zero Unknown argument = refl
 unanswered-nothing : (d : Decoded) (outcome : ℕ) (value : ℤ) → outcome ≡ 0 → recordedOf d outcome value ≡ Nothing
 unanswered-nothing (Fit a) outcome value e = rw (eq-eqb outcome 0 e)
 unanswered-nothing Unfit outcome value e = refl
-
-cond-same : {A : Type 0} (b : Bool) (x : A) → cond b x x ≡ x
-cond-same true x = refl
-cond-same false x = refl
 
 -- where only row t was written, what is read of a row stays if it does of that one
 pub row-by-row : {A : Type 0} (read : Row → A) (s z : Store) (t : ℕ) → ((k : ℕ) → ¬ (k ≡ t) → rowOf z k ≡ rowOf s k)

@@ -13,10 +13,10 @@ use Rattle.theory.proofs.Rows.{Rows, Agrees}
 use Rattle.theory.proofs.Agree.{agrees-start, agrees-next, agrees-idle, tree, within-known, alive-row, allowed}
 use Rattle.theory.proofs.Atomic.{behaves}
 use Rattle.theory.proofs.Runs.{same-self, runs-same}
-use Rattle.serial.specs.declared.Kind.{Kind}
-use Rattle.serial.specs.declared.State.{State}
-use Rattle.serial.specs.Kinds.{kindOf, openedOf, startOf}
-use Rattle.serial.specs.Object.{objectOf, opOf}
+use Rattle.kinds.specs.declared.Kind.{Kind}
+use Rattle.kinds.specs.declared.State.{State}
+use Rattle.kinds.specs.Kinds.{kindOf, openedOf, startOf}
+use Rattle.kinds.specs.Object.{objectOf, opOf}
 use Rattle.columns.specs.Column.{at, atZ}
 use Rattle.store.specs.declared.Store.{Store}
 use Rattle.store.specs.Form.{inForm}
@@ -25,7 +25,8 @@ use Rattle.store.specs.Respond.{respondOf}
 use Rattle.store.specs.Effects.{Sized}
 use Rattle.store.proofs.Sizes.{open-sized}
 use Rattle.store.proofs.Kept.{open-kept, kind-at, opening-at}
-use Rattle.store.proofs.Opens.{few, opened-or-empty}
+use Rattle.refusal.proofs.Opens.{few}
+use Rattle.store.proofs.Opens.{opened-or-empty}
 use Rattle.store.specs.Calls.{Call, replyTo, after}
 use Rattle.demands.specs.History.{events, historyFrom}
 use Rattle.demands.specs.Locking.{lockingOf, Moves}

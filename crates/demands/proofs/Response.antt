@@ -5,16 +5,16 @@ use mathlib.Core.Bool.{true}
 use native.Mathlib.Omega.{arith}
 use lib.IntN.{ℤ}
 use borrow.Author.Tests.{ne-eqb}
-use Rattle.serial.specs.declared.Kind.{Kind}
-use Rattle.serial.specs.declared.outcome.Outcome.{Outcome}
-use Rattle.serial.specs.declared.outcome.Outcome.the-variants.{Ok, Fail, Value}
-use Rattle.serial.specs.declared.outcome.Recalled.the-variants.{Given}
-use Rattle.serial.specs.declared.Answered.{Answered}
-use Rattle.serial.specs.declared.Decoded.{Decoded}
-use Rattle.serial.specs.declared.Decoded.the-variants.{Fit}
-use Rattle.serial.specs.Kinds.{recallOf, stepOf}
-use Rattle.serial.specs.Outcome.{numbersOf}
-use Rattle.serial.proofs.Claims.{answers-recalled}
+use Rattle.kinds.specs.declared.Kind.{Kind}
+use Rattle.kinds.specs.declared.outcome.Outcome.{Outcome}
+use Rattle.kinds.specs.declared.outcome.Outcome.the-variants.{Ok, Fail, Value}
+use Rattle.kinds.specs.declared.outcome.Recalled.the-variants.{Given}
+use Rattle.kinds.specs.declared.Answered.{Answered}
+use Rattle.kinds.specs.declared.Decoded.{Decoded}
+use Rattle.kinds.specs.declared.Decoded.the-variants.{Fit}
+use Rattle.kinds.specs.Kinds.{recallOf, stepOf}
+use Rattle.kinds.specs.Outcome.{numbersOf}
+use Rattle.kinds.proofs.Claims.{answers-recalled}
 use Rattle.columns.specs.Column.{at, atZ, rowsMost}
 use Rattle.replay.specs.declared.access.Recorded.the-variants.{As, Nothing}
 use Rattle.replay.specs.Access.{askedOf, recordedOf}

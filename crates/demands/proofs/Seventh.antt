@@ -11,11 +11,11 @@ use Rattle.below.specs.Climb.{climb, climbIn, upAny}
 use Rattle.theory.specs.History.{Step, Work}
 use Rattle.theory.specs.Locking.{total}
 use Rattle.theory.proofs.Tree.{root-alive}
-use Rattle.serial.specs.declared.Operation.the-variants as O
-use Rattle.serial.specs.declared.register.RegisterOperation.the-variants.{Write}
-use Rattle.serial.specs.declared.outcome.Outcome.the-variants.{Ok}
-use Rattle.serial.specs.Kinds.{kindOf, entry}
-use Rattle.serial.specs.Object.{objectOf}
+use Rattle.kinds.specs.declared.Operation.the-variants as O
+use Rattle.kinds.specs.declared.register.RegisterOperation.the-variants.{Write}
+use Rattle.kinds.specs.declared.outcome.Outcome.the-variants.{Ok}
+use Rattle.kinds.specs.Kinds.{kindOf, entry}
+use Rattle.kinds.specs.Object.{objectOf}
 use Rattle.columns.specs.Column.{at}
 use Rattle.columns.specs.Work.{work, only, laid, numbered}
 use Rattle.replay.specs.View.{afterAll}

@@ -13,17 +13,17 @@ use Rattle.theory.specs.Serial.{Op, Right, Swaps, Commute, run}
 use Rattle.theory.specs.History.{_∈_, Event, Step, ops}
 use Rattle.theory.specs.Locking.{Locking}
 use Rattle.theory.proofs.Runs.{takes-wider}
-use Rattle.serial.specs.declared.Kind.{Kind}
-use Rattle.serial.specs.declared.State.{State}
-use Rattle.serial.specs.declared.Operation.{Operation}
-use Rattle.serial.specs.declared.Answered.{Answered}
-use Rattle.serial.specs.declared.Decoded.{Decoded}
-use Rattle.serial.specs.declared.Decoded.the-variants.{Fit, Unfit}
-use Rattle.serial.specs.declared.outcome.Recalled.{Recalled}
-use Rattle.serial.specs.declared.outcome.Recalled.the-variants.{Given, Unshaped}
-use Rattle.serial.specs.Kinds.{stepOf, recallOf, conflictOf}
-use Rattle.serial.specs.Object.{objectOf, opOf}
-use Rattle.serial.proofs.Claims.{passes-swap, passes-commute, conflicts-symmetric}
+use Rattle.kinds.specs.declared.Kind.{Kind}
+use Rattle.kinds.specs.declared.State.{State}
+use Rattle.kinds.specs.declared.Operation.{Operation}
+use Rattle.kinds.specs.declared.Answered.{Answered}
+use Rattle.kinds.specs.declared.Decoded.{Decoded}
+use Rattle.kinds.specs.declared.Decoded.the-variants.{Fit, Unfit}
+use Rattle.kinds.specs.declared.outcome.Recalled.{Recalled}
+use Rattle.kinds.specs.declared.outcome.Recalled.the-variants.{Given, Unshaped}
+use Rattle.kinds.specs.Kinds.{stepOf, recallOf, conflictOf}
+use Rattle.kinds.specs.Object.{objectOf, opOf}
+use Rattle.kinds.proofs.Claims.{passes-swap, passes-commute, conflicts-symmetric}
 use Rattle.columns.specs.Column.{at}
 use Rattle.columns.specs.Work.{Found}
 use Rattle.columns.proofs.Work.{Each, each-append}

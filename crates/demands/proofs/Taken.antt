@@ -14,9 +14,9 @@ use Rattle.below.proofs.Column.{filled-at}
 use Rattle.theory.specs.Serial.{Serial, Op}
 use Rattle.theory.specs.History.{Role, other, access, created}
 use Rattle.theory.specs.Locking.{Locking, Initial, SameRequested, SameIntentions, Same, INFORM_COMMIT, INFORM_ABORT, Takes}
-use Rattle.serial.specs.declared.Kind.{Kind}
-use Rattle.serial.specs.declared.State.{State}
-use Rattle.serial.specs.Object.{objectOf}
+use Rattle.kinds.specs.declared.Kind.{Kind}
+use Rattle.kinds.specs.declared.State.{State}
+use Rattle.kinds.specs.Object.{objectOf}
 use Rattle.columns.specs.Column.{at, atZ, rowsMost}
 use Rattle.columns.specs.Work.{work}
 use Rattle.columns.proofs.Work.{Each}
@@ -26,7 +26,7 @@ use Rattle.form.specs.Form.{countMost}
 use Rattle.form.proofs.Facts.{Used, Blank}
 use Rattle.form.proofs.KeptLists.{known, found-placed}
 use Rattle.store.specs.declared.Store.{Store}
-use Rattle.store.specs.declared.Child.{Child}
+use Rattle.refusal.specs.declared.Child.{Child}
 use Rattle.store.specs.Form.{inForm}
 use Rattle.store.specs.Lists.{listOf, kindAt}
 use Rattle.store.specs.Open.{openOf}

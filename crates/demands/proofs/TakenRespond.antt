@@ -10,13 +10,13 @@ use Rattle.below.proofs.Tests.{not-so}
 use Rattle.theory.specs.Serial.{Right, Legal, run}
 use Rattle.theory.specs.History.{_∈_, Step, ops}
 use Rattle.theory.specs.Locking.{Locking, ancestor, total, REQUEST_COMMIT}
-use Rattle.serial.specs.declared.Kind.{Kind}
-use Rattle.serial.specs.declared.State.{State}
-use Rattle.serial.specs.declared.Answered.{Answered}
-use Rattle.serial.specs.declared.Decoded.{Decoded}
-use Rattle.serial.specs.Kinds.{openedOf, startOf, stepOf, conflictOf}
-use Rattle.serial.specs.Object.{objectOf, opOf}
-use Rattle.serial.proofs.Claims.{conflicts-symmetric}
+use Rattle.kinds.specs.declared.Kind.{Kind}
+use Rattle.kinds.specs.declared.State.{State}
+use Rattle.kinds.specs.declared.Answered.{Answered}
+use Rattle.kinds.specs.declared.Decoded.{Decoded}
+use Rattle.kinds.specs.Kinds.{openedOf, startOf, stepOf, conflictOf}
+use Rattle.kinds.specs.Object.{objectOf, opOf}
+use Rattle.kinds.proofs.Claims.{conflicts-symmetric}
 use Rattle.columns.specs.Column.{at, atZ, rowsMost}
 use Rattle.columns.specs.Work.{Found}
 use Rattle.columns.proofs.Work.{Each}

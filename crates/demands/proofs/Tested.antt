@@ -16,15 +16,15 @@ use Rattle.theory.specs.History.{access}
 use Rattle.theory.proofs.Tree.{access-other}
 use Rattle.theory.proofs.Agree.{blank}
 use Rattle.theory.proofs.Rows.{got, Rows, CreateTests, FinishTests, RespondTests, CommitTests}
-use Rattle.serial.specs.declared.Kind.{Kind}
-use Rattle.serial.specs.declared.Operation.{Operation}
-use Rattle.serial.specs.declared.outcome.Outcome.{Outcome}
-use Rattle.serial.specs.Object.{objectOf}
+use Rattle.kinds.specs.declared.Kind.{Kind}
+use Rattle.kinds.specs.declared.Operation.{Operation}
+use Rattle.kinds.specs.declared.outcome.Outcome.{Outcome}
+use Rattle.kinds.specs.Object.{objectOf}
 use Rattle.columns.specs.Column.{at, rowsMost}
 use Rattle.columns.specs.Tree.{hasAborted, openChild}
 use Rattle.replay.specs.declared.access.Recorded.the-variants.{As}
 use Rattle.store.specs.declared.Store.{Store}
-use Rattle.store.specs.declared.Child.{Child}
+use Rattle.refusal.specs.declared.Child.{Child}
 use Rattle.store.specs.Form.{inForm}
 use Rattle.store.specs.Lists.{kindAt, rowsOf}
 use Rattle.store.specs.Refusal.{missing, isRoot, finished, orphaned}

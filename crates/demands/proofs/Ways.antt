@@ -10,11 +10,11 @@ use Rattle.theory.specs.History.{Event, created, responded, committed, aborted,
 use Rattle.theory.proofs.Rows.{Agrees}
 use Rattle.theory.proofs.Tree.{access-other}
 use Rattle.theory.proofs.Agree.{asked-row, row-asked}
-use Rattle.serial.specs.declared.Kind.{Kind}
-use Rattle.serial.specs.Object.{objectOf}
+use Rattle.kinds.specs.declared.Kind.{Kind}
+use Rattle.kinds.specs.Object.{objectOf}
 use Rattle.columns.specs.Column.{at}
 use Rattle.store.specs.declared.Store.{Store}
-use Rattle.store.specs.declared.Child.{Child}
+use Rattle.refusal.specs.declared.Child.{Child}
 use Rattle.store.specs.Form.{inForm}
 use Rattle.store.specs.Lists.{kindAt}
 use Rattle.store.specs.Create.{createOf}

@@ -8,13 +8,13 @@ use borrow.Author.Tests.{eq-eqb, leb-false}
 use Rattle.theory.specs.Serial.{Serial}
 use Rattle.theory.specs.History.{Event, History}
 use Rattle.theory.proofs.Rows.{Rows, Agrees, Adds, SameRows, Says, Ends, Idles, Writes, FinishTests, Tests}
-use Rattle.serial.specs.declared.Kind.{Kind}
-use Rattle.serial.specs.Object.{objectOf}
+use Rattle.kinds.specs.declared.Kind.{Kind}
+use Rattle.kinds.specs.Object.{objectOf}
 use Rattle.columns.specs.Column.{at, rowsMost}
 use Rattle.form.specs.Form.{countMost}
 use Rattle.form.proofs.Facts.{Used}
 use Rattle.store.specs.declared.Store.{Store}
-use Rattle.store.specs.declared.Child.{Child}
+use Rattle.refusal.specs.declared.Child.{Child}
 use Rattle.store.specs.Form.{inForm}
 use Rattle.store.specs.Lists.{kindAt}
 use Rattle.store.specs.Create.{createOf}

@@ -4,7 +4,8 @@ use mathlib.Core.List.{List, [], _∷_}
 use lib.IntN.{pos}
 use Rattle.store.specs.declared.Store.{Store}
 use Rattle.store.specs.declared.Reply.{Reply}
-use Rattle.store.specs.Refusal.{Refusal, answerOf, replyOf}
+use Rattle.refusal.specs.Refusal.{Refusal, answerOf}
+use Rattle.store.specs.Refusal.{replyOf}
 use Rattle.store.specs.Create.{requestOf, created, createRefusals}
 use Rattle.store.specs.Respond.{askingOf, resultOf, responded, respondRefusals}
 use Rattle.store.specs.Effects.{Creates, Responds, Commits, Aborts}

@@ -4,11 +4,11 @@ use mathlib.Core.Path.{_≡_}
 use mathlib.Core.List.{List, [], _∷_}
 use lib.IntN.{pos}
 use Rattle.store.specs.declared.Store.{Store}
-use Rattle.store.specs.declared.Answer.{Answer}
+use Rattle.refusal.specs.declared.Answer.{Answer}
 use Rattle.store.specs.declared.Reply.{Reply}
-use Rattle.store.specs.declared.Request.{Request}
-use Rattle.store.specs.declared.Child.the-variants.{Plain, Access}
-use Rattle.store.specs.Refusal.{answerOf}
+use Rattle.refusal.specs.declared.Request.{Request}
+use Rattle.refusal.specs.declared.Child.the-variants.{Plain, Access}
+use Rattle.refusal.specs.Refusal.{answerOf}
 use Rattle.store.specs.Open.{openOf}
 use Rattle.store.specs.Calls.{Call, create, respond, commit, abort, answersTo}
 

@@ -11,21 +11,23 @@ use Rattle.theory.specs.History.{_∈_, access, responded, Step, ops, Committed
 use Rattle.theory.specs.Accepted.{Known, Accepted}
 use Rattle.theory.specs.Locking.{Initial, total, Tree}
 use Rattle.theory.specs.Atomic.{Serializes}
-use Rattle.serial.specs.declared.Kind.{Kind}
-use Rattle.serial.specs.declared.Operation.{Operation}
-use Rattle.serial.specs.declared.outcome.Outcome.{Outcome}
-use Rattle.serial.specs.declared.Answered.{Answered}
-use Rattle.serial.specs.Kinds.{conflictOf}
-use Rattle.serial.specs.Outcome.{numbersOf}
-use Rattle.serial.specs.Object.{objectOf, opOf}
+use Rattle.kinds.specs.declared.Kind.{Kind}
+use Rattle.kinds.specs.declared.Operation.{Operation}
+use Rattle.kinds.specs.declared.outcome.Outcome.{Outcome}
+use Rattle.kinds.specs.declared.Answered.{Answered}
+use Rattle.kinds.specs.Kinds.{conflictOf}
+use Rattle.kinds.specs.Outcome.{numbersOf}
+use Rattle.kinds.specs.Object.{objectOf, opOf}
 use Rattle.columns.specs.Column.{at}
 use Rattle.columns.specs.Tree.{hasCommitted, hasAborted}
 use Rattle.store.specs.declared.Store.{Store}
 use Rattle.store.specs.Form.{inForm}
 use Rattle.store.specs.Lists.{listOf, viewOf}
-use Rattle.store.specs.Open.{openable, openedStore, emptyStore, openOf}
-use Rattle.store.specs.Exact.{codesOf, NoneHolds}
-use Rattle.store.specs.Refusal.{answerOf, replyOf}
+use Rattle.refusal.specs.Open.{openable}
+use Rattle.store.specs.Open.{openedStore, emptyStore, openOf}
+use Rattle.refusal.specs.Exact.{codesOf, NoneHolds}
+use Rattle.refusal.specs.Refusal.{answerOf}
+use Rattle.store.specs.Refusal.{replyOf}
 use Rattle.store.specs.Respond.{askRefusals, respondOf}
 use Rattle.store.specs.Effects.{Sized}
 use Rattle.store.specs.Claims.{Decided, Blocked, Waits, Granted}

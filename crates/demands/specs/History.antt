@@ -7,18 +7,18 @@ use lib.IntN.{ℤ, pos, negsuc}
 use lib.Dec.{eqb}
 use Rattle.theory.specs.Serial.{Serial}
 use Rattle.theory.specs.History.{Role, other, access, Event, created, responded, committed, aborted, History}
-use Rattle.serial.specs.declared.Kind.{Kind}
-use Rattle.serial.specs.declared.outcome.Outcome.{Outcome}
-use Rattle.serial.specs.declared.outcome.Outcome.the-variants.{Ok, Fail, Value}
-use Rattle.serial.specs.declared.Decoded.{Decoded}
-use Rattle.serial.specs.declared.Decoded.the-variants.{Fit, Unfit}
-use Rattle.serial.specs.Kinds.{decodeOf}
-use Rattle.serial.specs.Outcome.{ok, fail}
-use Rattle.serial.specs.Object.{objectOf}
+use Rattle.kinds.specs.declared.Kind.{Kind}
+use Rattle.kinds.specs.declared.outcome.Outcome.{Outcome}
+use Rattle.kinds.specs.declared.outcome.Outcome.the-variants.{Ok, Fail, Value}
+use Rattle.kinds.specs.declared.Decoded.{Decoded}
+use Rattle.kinds.specs.declared.Decoded.the-variants.{Fit, Unfit}
+use Rattle.kinds.specs.Kinds.{decodeOf}
+use Rattle.kinds.specs.Outcome.{ok, fail}
+use Rattle.kinds.specs.Object.{objectOf}
 use Rattle.store.specs.declared.Store.{Store}
-use Rattle.store.specs.declared.Answer.{Answer}
-use Rattle.store.specs.declared.Child.{Child}
-use Rattle.store.specs.declared.Child.the-variants.{Plain, Access}
+use Rattle.refusal.specs.declared.Answer.{Answer}
+use Rattle.refusal.specs.declared.Child.{Child}
+use Rattle.refusal.specs.declared.Child.the-variants.{Plain, Access}
 use Rattle.store.specs.Calls.{Call, create, respond, commit, abort, replyTo}
 
 -- the outcome that a and b stand for: a is 1 for OK, 0 for FAIL, 2 for a value; b is the value. No other numbers are handed out (`handed-out`).

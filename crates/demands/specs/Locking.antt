@@ -6,9 +6,9 @@ use lib.Dec.{eqb}
 use Rattle.theory.specs.Serial.{Op}
 use Rattle.theory.specs.History.{other, Event, Step}
 use Rattle.theory.specs.Locking.{Locking, Same, Takes}
-use Rattle.serial.specs.declared.Kind.{Kind}
-use Rattle.serial.specs.declared.State.{State}
-use Rattle.serial.specs.Object.{objectOf, opOf}
+use Rattle.kinds.specs.declared.Kind.{Kind}
+use Rattle.kinds.specs.declared.State.{State}
+use Rattle.kinds.specs.Object.{objectOf, opOf}
 use Rattle.columns.specs.Column.{at}
 use Rattle.replay.specs.declared.access.Recorded.{Recorded}
 use Rattle.replay.specs.declared.access.Recorded.the-variants.{As, Nothing}

@@ -4,10 +4,10 @@ use mathlib.Core.List.{List, []}
 use lib.IntN.{ℤ}
 use Rattle.theory.specs.History.{History}
 use Rattle.theory.specs.Locking.{Locking}
-use Rattle.serial.specs.declared.Kind.{Kind}
-use Rattle.serial.specs.declared.State.{State}
-use Rattle.serial.specs.Kinds.{kindOf, openedOf, startOf}
-use Rattle.serial.specs.Object.{objectOf}
+use Rattle.kinds.specs.declared.Kind.{Kind}
+use Rattle.kinds.specs.declared.State.{State}
+use Rattle.kinds.specs.Kinds.{kindOf, openedOf, startOf}
+use Rattle.kinds.specs.Object.{objectOf}
 use Rattle.columns.specs.Column.{at, atZ}
 use Rattle.store.specs.declared.Store.{Store}
 use Rattle.store.specs.Open.{openOf}

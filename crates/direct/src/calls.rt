@@ -1,8 +1,8 @@
 // The store's calls, each with its answer printed. Nothing is asked of the store that comes in.
 use crate::show::print;
 use crate::show::shown;
-use store::Child;
-use store::Request;
+use refusal::Child;
+use refusal::Request;
 use store::Store;
 
 pub(crate) const ACCOUNT: u32 = 0;

@@ -14,13 +14,13 @@ use Rattle.below.specs.Climb.{Lower}
 use Rattle.below.proofs.Tests.{bool-or, not-so, same-or, le-or, and-both, and-fst, and-snd, by-cases}
 use Rattle.below.proofs.Search.{all-at, all-of}
 use Rattle.below.proofs.Climb.{up-le}
-use Rattle.serial.specs.declared.Operation.{Operation}
-use Rattle.serial.specs.declared.Decoded.{Decoded}
-use Rattle.serial.specs.declared.Decoded.the-variants.{Fit, Unfit}
-use Rattle.serial.specs.declared.outcome.Outcome.{Outcome}
-use Rattle.serial.specs.declared.outcome.Recalled.{Recalled}
-use Rattle.serial.specs.declared.outcome.Recalled.the-variants.{Given, Unshaped}
-use Rattle.serial.specs.Kinds.{kindOf, openedOf, opens, decodeOf, recallOf}
+use Rattle.kinds.specs.declared.Operation.{Operation}
+use Rattle.kinds.specs.declared.Decoded.{Decoded}
+use Rattle.kinds.specs.declared.Decoded.the-variants.{Fit, Unfit}
+use Rattle.kinds.specs.declared.outcome.Outcome.{Outcome}
+use Rattle.kinds.specs.declared.outcome.Recalled.{Recalled}
+use Rattle.kinds.specs.declared.outcome.Recalled.the-variants.{Given, Unshaped}
+use Rattle.kinds.specs.Kinds.{kindOf, openedOf, opens, decodeOf, recallOf}
 use Rattle.columns.specs.Column.{at, atZ, rowsMost, placesMost}
 use Rattle.columns.specs.Tree.{hasAborted, atOrAbove}
 use Rattle.columns.specs.Work.{Sound}
@@ -78,7 +78,7 @@ module _ (count k : ℕ) where
   used-is : used count k ≡ true → Used count k
   used-is e = (ltb-true 0 k (and-fst (ltb 0 k) _ e), leb-true k count (and-snd (ltb 0 k) _ e))
 
-  not-used : (Used count k → ⊥) → used count k ≡ false
+  pub not-used : (Used count k → ⊥) → used count k ≡ false
   not-used n = not-so (used count k) (λ t. n (used-is t))
 
   unused-is : used count k ≡ false → Used count k → ⊥

@@ -9,11 +9,11 @@ use lib.ListN.{length, set, replicate}
 use lib.Seq.{getD-set-same, getD-set-other}
 use Rattle.below.proofs.Tests.{same-or}
 use Rattle.below.proofs.Column.{filled-at}
-use Rattle.serial.specs.declared.Operation.{Operation}
-use Rattle.serial.specs.declared.Decoded.the-variants.{Fit}
-use Rattle.serial.specs.declared.outcome.Outcome.{Outcome}
-use Rattle.serial.specs.declared.outcome.Recalled.the-variants.{Given}
-use Rattle.serial.specs.Kinds.{kindOf, decodeOf, recallOf}
+use Rattle.kinds.specs.declared.Operation.{Operation}
+use Rattle.kinds.specs.declared.Decoded.the-variants.{Fit}
+use Rattle.kinds.specs.declared.outcome.Outcome.{Outcome}
+use Rattle.kinds.specs.declared.outcome.Recalled.the-variants.{Given}
+use Rattle.kinds.specs.Kinds.{kindOf, decodeOf, recallOf}
 use Rattle.columns.specs.Column.{at, atZ, rowsMost}
 use Rattle.form.specs.Form.{countMost, objectsMost}
 use Rattle.form.proofs.Facts.{Objects, Used, Access, Fits, Blank, Accesses, asked-access}

@@ -5,11 +5,11 @@ use mathlib.Core.List.{List}
 use lib.IntN.{ℤ, pos, negsuc}
 use lib.Dec.{eqb, leb, ltb}
 use Rattle.below.specs.Below.{allBelow}
-use Rattle.serial.specs.declared.Decoded.{Decoded}
-use Rattle.serial.specs.declared.Decoded.the-variants.{Fit, Unfit}
-use Rattle.serial.specs.declared.outcome.Recalled.{Recalled}
-use Rattle.serial.specs.declared.outcome.Recalled.the-variants.{Given, Unshaped}
-use Rattle.serial.specs.Kinds.{kindOf, openedOf, opens, decodeOf, recallOf}
+use Rattle.kinds.specs.declared.Decoded.{Decoded}
+use Rattle.kinds.specs.declared.Decoded.the-variants.{Fit, Unfit}
+use Rattle.kinds.specs.declared.outcome.Recalled.{Recalled}
+use Rattle.kinds.specs.declared.outcome.Recalled.the-variants.{Given, Unshaped}
+use Rattle.kinds.specs.Kinds.{kindOf, openedOf, opens, decodeOf, recallOf}
 use Rattle.columns.specs.Column.{at, atZ, rowsMost, placesMost}
 use Rattle.columns.specs.Tree.{hasAborted, atOrAbove}
 

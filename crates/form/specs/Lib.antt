@@ -1,1 +1,3 @@
 pub mod Form
+pub mod Rows
+pub mod Known

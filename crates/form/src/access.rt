@@ -1,18 +1,22 @@
 // The accesses: object, operation and argument fit, and an answer has a shape that the operation allows.
 ghost use mathlib.Core.Path.{_≡_};
 ghost use Prim.Native.Nat.{_<_, _≤_};
-ghost use Rattle.serial.specs.Kinds.{kindOf, decodeOf, recallOf};
-ghost use Rattle.columns.specs.Column.{rowsMost};
+ghost use Rattle.kinds.specs.Kinds.{kindOf, decodeOf, recallOf};
+ghost use Rattle.below.specs.Below.{allFrom};
+ghost use Rattle.columns.specs.Column.{at, atZ, rowsMost};
 ghost use Rattle.form.specs.Form.{objectsMost, isAccess, given, fits, blank, accessRow, accessesFine};
 use crate::objects::OBJECTS;
+use crate::rest::zero8_from;
+use crate::rest::zero64_from;
 use crate::row::is_used;
 use crate::row::is_zero;
+use crate::row::rows_to;
 use columns::tree::ROWS;
 use columns::wide::wide8;
 use columns::wide::word8;
-use serial::Decoded;
-use serial::Operation;
-use serial::Recalled;
+use kinds::Decoded;
+use kinds::Operation;
+use kinds::Recalled;
 use serial::decode;
 use serial::kind_of;
 use serial::recall;
@@ -94,6 +98,24 @@ fn row_fine<'a>(
     access_fits(kind[o], operation[k], argument[k], outcome[k], value[k])
 }
 
+// Whether the rows from `from` on are zero.
+fn blank_from<'a>(
+    object: &'a [u8; ROWS],
+    operation: &'a [u8; ROWS],
+    argument: &'a [i64; ROWS],
+    outcome: &'a [u8; ROWS],
+    value: &'a [i64; ROWS],
+    from: usize,
+) -> bool
+    requires { ⌜ from ≤ rowsMost ⌝ }
+    ensures { λ r. ⌜ r ≡ allFrom from rowsMost (λ k. blank (at (now (object .entry)) k) (at (now (operation .entry)) k) (atZ (now (argument .entry)) k) (at (now (outcome .entry)) k) (atZ (now (value .entry)) k)) ⌝ }
+{
+    let asked = zero8_from(object, from)
+        & zero8_from(operation, from)
+        & zero64_from(argument, from);
+    asked & zero8_from(outcome, from) & zero64_from(value, from)
+}
+
 pub fn accesses_fine<'a>(
     objects: usize,
     kind: &'a [u8; OBJECTS],
@@ -107,8 +129,12 @@ pub fn accesses_fine<'a>(
     requires { ⌜ objects ≤ objectsMost ⌝ }
     ensures { λ r. ⌜ r ≡ accessesFine objects (now (kind .entry)) count (now (object .entry)) (now (operation .entry)) (now (argument .entry)) (now (outcome .entry)) (now (value .entry)) ⌝ }
 {
+    let rows = rows_to(count);
+    if !blank_from(object, operation, argument, outcome, value, rows) {
+        return false;
+    }
     let mut k = 0;
-    while k < ROWS {
+    while k < rows {
         if !row_fine(
             objects,
             kind,

@@ -1,8 +1,9 @@
-// The form rules of a store, tested over its columns. Each test is one pass, but that each listed access is climbed from to its
-// holder.
+// The form rules of a store, tested over its columns. Each test is one pass over the rows in use and one over the rest.
 mod access;
+mod climb;
 mod lists;
 mod objects;
+mod rest;
 mod row;
 mod tree;
 

@@ -1,14 +1,19 @@
 // The lists: places and order are inverse to each other, and a listed access is answered and held at or above itself.
 ghost use mathlib.Core.Path.{_≡_};
+ghost use mathlib.Core.Bool.{true, _&&_};
 ghost use Prim.Native.Nat.{_<_, _≤_};
-ghost use Rattle.below.specs.Below.{allBelow};
+ghost use lib.Dec.{eqb};
+ghost use Rattle.below.specs.Below.{allBelow, allFrom};
 ghost use Rattle.below.specs.Climb.{Lower};
 ghost use Rattle.columns.specs.Column.{at, rowsMost, placesMost};
 ghost use Rattle.form.specs.Form.{countMost, orderEntry, listRow, listsFine};
+ghost use Rattle.form.specs.Known.{Known};
+use crate::climb::climbs_to;
+use crate::rest::zero16_from;
+use crate::row::rows_to;
 use columns::order::PLACES;
 use columns::order::entry;
 use columns::tree::ROWS;
-use columns::tree::at_or_above;
 use columns::tree::at16;
 
 fn entry_fine<'a>(
@@ -18,13 +23,10 @@ fn entry_fine<'a>(
     place: &'a [u16; ROWS],
     i: usize,
 ) -> bool
-    requires { ⌜ (count ≤ countMost) × (i < placesMost) ⌝ }
+    requires { ⌜ (count ≤ countMost) × (listed ≤ placesMost) × (i < listed) ⌝ }
     ensures { λ r. ⌜ r ≡ orderEntry count listed (now (order .entry)) (now (place .entry)) i ⌝ }
 {
     let x = entry(order, i);
-    if listed <= i {
-        return x == 0;
-    }
     if x == 0 {
         return false;
     }
@@ -40,11 +42,14 @@ fn entries_fine<'a>(
     order: &'a [u16; PLACES],
     place: &'a [u16; ROWS],
 ) -> bool
-    requires { ⌜ count ≤ countMost ⌝ }
+    requires { ⌜ (count ≤ countMost) × (listed ≤ placesMost) ⌝ }
     ensures { λ r. ⌜ r ≡ allBelow placesMost (orderEntry count listed (now (order .entry)) (now (place .entry))) ⌝ }
 {
+    if !zero16_from(order, listed) {
+        return false;
+    }
     let mut i = 0;
-    while i < PLACES {
+    while i < listed {
         if !entry_fine(count, listed, order, place, i) {
             return false;
         }
@@ -53,6 +58,7 @@ fn entries_fine<'a>(
     true
 }
 
+// `above` is what the climbs of the rows before have found.
 fn row_fine<'a>(
     parent: &'a [u16; ROWS],
     outcome: &'a [u8; ROWS],
@@ -60,15 +66,15 @@ fn row_fine<'a>(
     order: &'a [u16; PLACES],
     holder: &'a [u16; ROWS],
     place: &'a [u16; ROWS],
+    above: &mut [u16; ROWS],
     k: usize,
 ) -> bool
-    requires { ⌜ (listed ≤ placesMost) × Lower rowsMost (at (now parent)) × (k < rowsMost) ⌝ }
-    ensures { λ r. ⌜ r ≡ listRow (now (parent .entry)) (now (outcome .entry)) listed (now (order .entry)) (now (holder .entry)) (now (place .entry)) k ⌝ }
+    requires { ⌜ (listed ≤ placesMost) × (k < rowsMost) × Lower rowsMost (at (now parent)) × Known (now parent) (now above) ⌝ }
+    ensures { λ r. ⌜ (r ≡ listRow (now (parent .entry)) (now (outcome .entry)) listed (now (order .entry)) (now (holder .entry)) (now (place .entry)) k) × (r ≡ true → Known (now (parent .entry)) (now (above .exit))) ⌝ }
 {
     let p = at16(place, k);
-    let h = at16(holder, k);
     if p == 0 {
-        return h == 0;
+        return at16(holder, k) == 0;
     }
     if outcome[k] == 0 {
         return false;
@@ -79,7 +85,7 @@ fn row_fine<'a>(
     if entry(order, p - 1) != k {
         return false;
     }
-    at_or_above(parent, k, h)
+    climbs_to(parent, above, k, holder[k])
 }
 
 fn rows_fine<'a>(
@@ -89,18 +95,29 @@ fn rows_fine<'a>(
     order: &'a [u16; PLACES],
     holder: &'a [u16; ROWS],
     place: &'a [u16; ROWS],
+    rows: usize,
 ) -> bool
-    requires { ⌜ (listed ≤ placesMost) × Lower rowsMost (at (now parent)) ⌝ }
-    ensures { λ r. ⌜ r ≡ allBelow rowsMost (listRow (now (parent .entry)) (now (outcome .entry)) listed (now (order .entry)) (now (holder .entry)) (now (place .entry))) ⌝ }
+    requires { ⌜ (listed ≤ placesMost) × Lower rowsMost (at (now parent)) × (rows ≤ rowsMost) ⌝ }
+    ensures { λ r. ⌜ r ≡ allBelow rows (listRow (now (parent .entry)) (now (outcome .entry)) listed (now (order .entry)) (now (holder .entry)) (now (place .entry))) ⌝ }
 {
+    // The root is above each.
+    let mut above = [0u16; ROWS];
     let mut k = 0;
-    while k < ROWS {
-        if !row_fine(parent, outcome, listed, order, holder, place, k) {
+    while k < rows {
+        if !row_fine(parent, outcome, listed, order, holder, place, &mut above, k) {
             return false;
         }
         k += 1;
     }
     true
+}
+
+// Whether the rows from `from` on are on no list.
+fn unlisted_from<'a>(holder: &'a [u16; ROWS], place: &'a [u16; ROWS], from: usize) -> bool
+    requires { ⌜ from ≤ rowsMost ⌝ }
+    ensures { λ r. ⌜ r ≡ allFrom from rowsMost (λ k. eqb (at (now (place .entry)) k) 0 && eqb (at (now (holder .entry)) k) 0) ⌝ }
+{
+    zero16_from(place, from) & zero16_from(holder, from)
 }
 
 pub fn lists_fine<'a>(
@@ -121,5 +138,9 @@ pub fn lists_fine<'a>(
     if !entries_fine(count, listed, order, place) {
         return false;
     }
-    rows_fine(parent, outcome, listed, order, holder, place)
+    let rows = rows_to(count);
+    if !unlisted_from(holder, place, rows) {
+        return false;
+    }
+    rows_fine(parent, outcome, listed, order, holder, place, rows)
 }

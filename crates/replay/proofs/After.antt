@@ -6,15 +6,15 @@ use mathlib.Core.List.{List, [], _∷_, _++_}
 use native.Mathlib.Omega.{arith}
 use lib.IntN.{ℤ}
 use lib.ListN.{length}
-use Rattle.serial.specs.declared.Kind.{Kind}
-use Rattle.serial.specs.declared.State.{State}
-use Rattle.serial.specs.declared.Decoded.{Decoded}
-use Rattle.serial.specs.declared.Decoded.the-variants.{Fit, Unfit}
-use Rattle.serial.specs.declared.Opening.{Opening}
-use Rattle.serial.specs.declared.Opening.the-variants.{At, Refused}
-use Rattle.serial.specs.Kinds.{openedOf, startOf, opens, decodeOf, Bounded}
-use Rattle.serial.specs.Object.{Grown, upto, kept}
-use Rattle.serial.proofs.Takes.{decoded-takes, takes-grown, grown-has, opened-grown}
+use Rattle.kinds.specs.declared.Kind.{Kind}
+use Rattle.kinds.specs.declared.State.{State}
+use Rattle.kinds.specs.declared.Decoded.{Decoded}
+use Rattle.kinds.specs.declared.Decoded.the-variants.{Fit, Unfit}
+use Rattle.kinds.specs.declared.Opening.{Opening}
+use Rattle.kinds.specs.declared.Opening.the-variants.{At, Refused}
+use Rattle.kinds.specs.Kinds.{openedOf, startOf, opens, decodeOf, Bounded}
+use Rattle.kinds.specs.Object.{Grown, upto, kept}
+use Rattle.kinds.proofs.Takes.{decoded-takes, takes-grown, grown-has, opened-grown}
 use Rattle.columns.specs.Column.{at, atZ}
 use Rattle.replay.specs.Access.{askedOf}
 use Rattle.replay.specs.View.{afterOne, afterAll}

@@ -9,8 +9,8 @@ asked κs a x y s t = sole
 record-of : Sole 0 of.access.record_of.Kinds.ps of.access.record_of.Kinds.r of.access.record_of.Reads.Learnt
 record-of κs a x y s t = sole
 
+record-at : Sole 1 of.access.record_at.Kinds.ps of.access.record_at.Kinds.r of.access.record_at.Reads.Learnt
+record-at κs a x y s t = sole
+
 replayed : Sole 1 of.view.replayed.Kinds.ps of.view.replayed.Kinds.r of.view.replayed.Reads.Learnt
 replayed κs a x y s t = sole
-
-first-wait : Sole 1 of.wait.first_wait.Kinds.ps of.wait.first_wait.Kinds.r of.wait.first_wait.Reads.Learnt
-first-wait κs a x y s t = sole

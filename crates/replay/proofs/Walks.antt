@@ -7,10 +7,10 @@ use native.Mathlib.Omega.{arith}
 use lib.IntN.{ℤ}
 use lib.ListN.{length, length-append}
 use Rattle.below.specs.Climb.{Lower}
-use Rattle.serial.specs.declared.Kind.{Kind}
-use Rattle.serial.specs.declared.State.{State}
-use Rattle.serial.specs.declared.Decoded.{Decoded}
-use Rattle.serial.specs.Kinds.{openedOf, startOf, opens, Bounded}
+use Rattle.kinds.specs.declared.Kind.{Kind}
+use Rattle.kinds.specs.declared.State.{State}
+use Rattle.kinds.specs.declared.Decoded.{Decoded}
+use Rattle.kinds.specs.Kinds.{openedOf, startOf, opens, Bounded}
 use Rattle.columns.specs.Column.{at, rowsMost, placesMost}
 use Rattle.columns.specs.Work.{onList, listIn, Sound}
 use Rattle.columns.proofs.Work.{only-le}

@@ -4,13 +4,13 @@ use mathlib.Core.Bool.{cond}
 use mathlib.Core.List.{List}
 use lib.IntN.{ℤ}
 use lib.Dec.{eqb}
-use Rattle.serial.specs.declared.Kind.{Kind}
-use Rattle.serial.specs.declared.Operation.{Operation}
-use Rattle.serial.specs.declared.Decoded.{Decoded}
-use Rattle.serial.specs.declared.Decoded.the-variants.{Fit, Unfit}
-use Rattle.serial.specs.declared.outcome.Recalled.{Recalled}
-use Rattle.serial.specs.declared.outcome.Recalled.the-variants.{Given, Unshaped}
-use Rattle.serial.specs.Kinds.{decodeOf, recallOf}
+use Rattle.kinds.specs.declared.Kind.{Kind}
+use Rattle.kinds.specs.declared.Operation.{Operation}
+use Rattle.kinds.specs.declared.Decoded.{Decoded}
+use Rattle.kinds.specs.declared.Decoded.the-variants.{Fit, Unfit}
+use Rattle.kinds.specs.declared.outcome.Recalled.{Recalled}
+use Rattle.kinds.specs.declared.outcome.Recalled.the-variants.{Given, Unshaped}
+use Rattle.kinds.specs.Kinds.{decodeOf, recallOf}
 use Rattle.columns.specs.Column.{at, atZ}
 use Rattle.replay.specs.declared.access.Recorded.{Recorded}
 use Rattle.replay.specs.declared.access.Recorded.the-variants.{As, Nothing}

@@ -4,9 +4,9 @@ use mathlib.Core.Bool.{cond}
 use mathlib.Core.Path.{_≡_}
 use mathlib.Core.List.{List, [], _∷_}
 use lib.Dec.{eqb}
-use Rattle.serial.specs.declared.Kind.{Kind}
-use Rattle.serial.specs.declared.State.{State}
-use Rattle.serial.specs.Object.{Grown}
+use Rattle.kinds.specs.declared.Kind.{Kind}
+use Rattle.kinds.specs.declared.State.{State}
+use Rattle.kinds.specs.Object.{Grown}
 use Rattle.columns.specs.Column.{at, rowsMost, placesMost}
 use Rattle.replay.specs.View.{Distinct}
 

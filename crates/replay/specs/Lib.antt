@@ -1,4 +1,3 @@
 pub mod Access
 pub mod View
 pub mod Chain
-pub mod Wait

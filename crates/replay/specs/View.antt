@@ -3,10 +3,10 @@ use Prim.Native.Nat.{ℕ, _<_}
 use mathlib.Core.Path.{_≡_}
 use mathlib.Core.List.{List, [], _∷_, _++_}
 use Rattle.below.specs.Climb.{climb}
-use Rattle.serial.specs.declared.State.{State}
-use Rattle.serial.specs.declared.Decoded.{Decoded}
-use Rattle.serial.specs.declared.Decoded.the-variants.{Fit, Unfit}
-use Rattle.serial.specs.Kinds.{stepOf}
+use Rattle.kinds.specs.declared.State.{State}
+use Rattle.kinds.specs.declared.Decoded.{Decoded}
+use Rattle.kinds.specs.declared.Decoded.the-variants.{Fit, Unfit}
+use Rattle.kinds.specs.Kinds.{stepOf}
 use Rattle.columns.specs.Column.{at}
 
 -- the view of a transaction is its parent's view followed by its own list; the root's view is its list

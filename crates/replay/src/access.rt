@@ -5,10 +5,10 @@ ghost use Rattle.columns.specs.Column.{rowsMost};
 ghost use Rattle.replay.specs.Access.{askedOf, recordedOf, recordIn};
 use columns::tree::ROWS;
 use columns::wide::word8;
-use serial::Answered;
-use serial::Decoded;
-use serial::Kind;
-use serial::Recalled;
+use kinds::Answered;
+use kinds::Decoded;
+use kinds::Kind;
+use kinds::Recalled;
 
 // An answer on record.
 pub enum Recorded {
@@ -49,7 +49,7 @@ pub fn record_of(asked: Decoded, outcome: u8, value: i64) -> Recorded
 }
 
 // The answer on record of access x, on an object of the kind.
-pub(crate) fn record_at<'a>(
+pub fn record_at<'a>(
     operation: &'a [u8; ROWS],
     argument: &'a [i64; ROWS],
     outcome: &'a [u8; ROWS],

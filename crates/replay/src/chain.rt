@@ -2,7 +2,7 @@
 ghost use mathlib.Core.Path.{_≡_};
 ghost use Prim.Native.Nat.{_<_};
 ghost use lib.ListN.{length};
-ghost use Rattle.serial.specs.Kinds.{Bounded};
+ghost use Rattle.kinds.specs.Kinds.{Bounded};
 ghost use Rattle.columns.specs.Column.{rowsMost};
 ghost use Rattle.columns.specs.Work.{work, listIn};
 ghost use Rattle.replay.specs.Access.{askedOf};
@@ -13,9 +13,9 @@ use columns::order::PLACES;
 use columns::order::entry;
 use columns::tree::ROWS;
 use columns::tree::at16;
-use serial::Decoded;
-use serial::Kind;
-use serial::State;
+use kinds::Decoded;
+use kinds::Kind;
+use kinds::State;
 
 // The first entry of each holder, and the next of each entry; 0 is none.
 pub(crate) struct Chains {

@@ -1,5 +1,4 @@
-// What an access is answered: its row read, the view replayed, and the first access that it must wait for.
+// What an access is answered from: its row read, and the view replayed.
 pub mod access;
 mod chain;
 pub mod view;
-pub mod wait;

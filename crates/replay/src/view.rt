@@ -4,7 +4,7 @@ ghost use mathlib.Core.Bool.{true};
 ghost use Prim.Native.Nat.{_+_, _<_};
 ghost use lib.ListN.{length};
 ghost use Rattle.below.specs.Climb.{Lower};
-ghost use Rattle.serial.specs.Kinds.{openedOf, startOf, opens};
+ghost use Rattle.kinds.specs.Kinds.{openedOf, startOf, opens};
 ghost use Rattle.columns.specs.Column.{at, rowsMost};
 ghost use Rattle.columns.specs.Work.{work, listIn, Sound};
 ghost use Rattle.replay.specs.Access.{askedOf};
@@ -15,8 +15,8 @@ use crate::chain::walked;
 use columns::order::PLACES;
 use columns::tree::ROWS;
 use columns::tree::at16;
-use serial::Kind;
-use serial::State;
+use kinds::Kind;
+use kinds::State;
 
 // The replayed state of t: its parent's, and then its own chain.
 fn climbed<'a>(

@@ -1,16 +1,24 @@
 // The check of a whole file, before anything of it is run.
 ghost use mathlib.Core.Path.{_≡_};
 ghost use Prim.Native.Nat.{_+_, _≤_};
-ghost use Rattle.runfile.specs.Written.{callsMost, bytesMost};
-ghost use Rattle.runfile.specs.Items.{endsFrom};
-ghost use Rattle.runfile.specs.Check.{nextIn, mostIn, countAt, sectionAt, endedAt, callsLayout, layoutOf, checkOf};
-use crate::line::CallLine;
-use crate::line::ObjectLine;
+ghost use Rattle.written.specs.Written.{callsMost, bytesMost};
+ghost use Rattle.written.specs.Items.{endsFrom};
+ghost use Rattle.written.specs.Check.{nextIn, mostIn, countAt, sectionAt, endedAt, callsLayout, layoutOf, checkOf};
 use crate::line::call_at;
 use crate::line::object_at;
-use crate::number::LINE_END;
-use crate::number::Number;
-use crate::number::number_at;
+use text::number::LINE_END;
+use text::number::Number;
+use text::number::number_at;
+use written::CallLine;
+use written::Check;
+use written::Ends;
+use written::Layout;
+use written::Next;
+use written::ObjectLine;
+use written::Part;
+use written::Place;
+use written::Section;
+use written::SectionEnd;
 
 // Limits of document 01, "The run file and its program".
 pub const BYTES: usize = 65536;
@@ -18,53 +26,6 @@ pub const BYTES: usize = 65536;
 pub const OBJECTS: u32 = 64;
 
 pub const CALLS: u32 = 4096;
-
-// What the lines after a count are.
-enum Section {
-    Objects,
-    Calls,
-}
-
-// The place after a right line.
-enum Next {
-    Line(usize),
-    Wrong,
-}
-
-// The start of a line, and its number in the file, from 1.
-struct Place {
-    at: usize,
-    line: u32,
-}
-
-// The place after some lines, or the number of the first wrong one.
-enum Ends {
-    At(Place),
-    Wrong(u32),
-}
-
-// How many lines a section has after its count, and where the first one starts.
-pub struct Part {
-    pub lines: u32,
-    pub start: usize,
-}
-
-// A section, and the place after it; or its first wrong line.
-enum SectionEnd {
-    After(Part, Place),
-    Wrong(u32),
-}
-
-pub struct Layout {
-    pub objects: Part,
-    pub calls: Part,
-}
-
-pub enum Check {
-    Good(Layout),
-    // The first wrong or missing line, from 1; 0 for a file too long.
-    Bad(u32),
-}
 
 fn next_in(file: &[u8], section: Section, at: usize) -> Next
     ensures { λ r. ⌜ r ≡ nextIn (now (file .entry)) section at ⌝ }

@@ -1,5 +1,3 @@
-// The run file: its numbers, lines and sections, the check of a whole file, and the lines that are printed. Knows no store.
+// The run file: its lines and sections, and the check of a whole file. Knows no store.
 pub mod check;
 pub mod line;
-pub mod number;
-pub mod print;

@@ -1,35 +1,14 @@
 // The lines of the file's two sections.
 ghost use mathlib.Core.Path.{_≡_};
 ghost use lib.IntN.{pos};
-ghost use Rattle.runfile.specs.Line.{letterAt, isKind, singleOf, accessAt, objectAt, callAt};
-use crate::number::LINE_END;
-use crate::number::Number;
-use crate::number::SPACE;
-use crate::number::number_at;
-
-// What a call line asks.
-pub enum Call {
-    // N: the parent.
-    Plain(u32),
-    // U: parent, object, operation and argument.
-    Access(u32, u32, u32, i64),
-    // G, C and B: the transaction.
-    Respond(u32),
-    Commit(u32),
-    Abort(u32),
-}
-
-// A call line that was read, with the place of the next line.
-pub enum CallLine {
-    Call(Call, usize),
-    Wrong,
-}
-
-// An object line that was read: its kind's letter and its opening, with the place of the next line.
-pub enum ObjectLine {
-    Object(u8, i64, usize),
-    Wrong,
-}
+ghost use Rattle.written.specs.Line.{letterAt, isKind, singleOf, accessAt, objectAt, callAt};
+use text::number::LINE_END;
+use text::number::Number;
+use text::number::SPACE;
+use text::number::number_at;
+use written::Call;
+use written::CallLine;
+use written::ObjectLine;
 
 fn signed(v: u32) -> i64
     ensures { λ r. ⌜ r ≡ pos v ⌝ }

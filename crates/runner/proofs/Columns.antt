@@ -8,12 +8,12 @@ use native.Mathlib.Omega.{arith}
 use lib.ListN.{length, set, replicate, take, drop, length-map}
 use lib.Seq.{sets, sets-eq, length-sets, take-at}
 use lib.IntN.{ℤ, pos}
-use Rattle.runfile.specs.Written.{Object, objectsMost}
-use Rattle.runfile.specs.Items.{itemsFrom}
-use Rattle.runfile.specs.Line.{objectAt}
-use Rattle.runfile.specs.Check.{objectRead, objectItem}
-use Rattle.runfile.specs.declared.line.ObjectLine.the-variants as O
-use Rattle.runfile.proofs.Items.{items-done, items-wrong, items-more}
+use Rattle.written.specs.Written.{Object, objectsMost}
+use Rattle.written.specs.Items.{itemsFrom}
+use Rattle.written.specs.Line.{objectAt}
+use Rattle.written.specs.Check.{objectRead, objectItem}
+use Rattle.written.specs.declared.ObjectLine.the-variants as O
+use Rattle.written.proofs.Items.{items-done, items-wrong, items-more}
 use Rattle.runner.specs.declared.Objects.{Objects}
 use Rattle.runner.specs.Columns.{columnsOf}
 

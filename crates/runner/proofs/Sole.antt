@@ -8,8 +8,9 @@ use lib.ListN.{length}
 use Rattle.promise.specs.Sole.{Whole, AsksNothing}
 use Rattle.promise.proofs.Sole.{whole}
 use Rattle.below.proofs.Tests.{le-or}
-use Rattle.runfile.proofs.Printing.{puts-one}
-use Rattle.runner.specs.Output.{outputMost, Exported}
+use Rattle.text.proofs.Printing.{puts-one}
+use Rattle.output.specs.Output.{outputMost}
+use Rattle.runner.specs.Export.{Exported}
 use Rattle.runner.proofs as of
 
 exported-one : {input before exit other : List ℕ} {r q : ℕ} → Exported input before r exit → Exported input before q other → (r ≡ q) × (exit ≡ other)

@@ -3,7 +3,7 @@ use mathlib.Core.List.{List, map}
 use lib.ListN.{length, replicate}
 use lib.Seq.{sets}
 use lib.IntN.{pos}
-use Rattle.runfile.specs.Written.{Object, objectsMost}
+use Rattle.written.specs.Written.{Object, objectsMost}
 use Rattle.runner.specs.declared.Objects.{Objects}
 
 -- letters and openings at the front, as many as there are objects

@@ -1,31 +1,32 @@
 // Runs a run file: its objects opened and its calls made on a store, one line printed for each answer.
 ghost use mathlib.Core.Path.{_≡_};
 ghost use mathlib.Core.List.{map};
-ghost use Prim.Native.Nat.{_+_, _*_, _≤_, _<_};
+ghost use Prim.Native.Nat.{_+_, _*_, _≤_};
 ghost use lib.ListN.{length};
-ghost use Rattle.runfile.specs.Text.{answerMost};
-ghost use Rattle.runfile.specs.Puts.{Puts};
-ghost use Rattle.runfile.specs.Written.{joined, objectsMost, callsMost};
-ghost use Rattle.runfile.specs.Items.{itemsFrom};
-ghost use Rattle.runfile.specs.Check.{objectItem, callItem};
-ghost use Rattle.runfile.specs.File.{objectsIn, callsIn};
+ghost use Rattle.text.specs.Text.{answerMost};
+ghost use Rattle.text.specs.Puts.{Puts};
+ghost use Rattle.written.specs.Written.{joined, objectsMost, callsMost};
+ghost use Rattle.written.specs.Items.{itemsFrom};
+ghost use Rattle.written.specs.Check.{objectItem, callItem};
+ghost use Rattle.written.specs.File.{objectsIn, callsIn};
 ghost use Rattle.store.specs.Calls.{replyTo, answersTo};
-ghost use Rattle.runner.specs.Output.{callOf, openedWith, answersFrom, lineOf, outputOf, outputMost, Exported};
+ghost use Rattle.output.specs.Output.{callOf, openedWith, answersFrom, lineOf, outputOf, outputMost};
+ghost use Rattle.runner.specs.Export.{Exported};
 ghost use Rattle.runner.specs.Columns.{columnsOf};
-use runfile::check::Check;
-use runfile::check::Layout;
-use runfile::check::Part;
+use refusal::Child;
+use refusal::Request;
 use runfile::check::check_file;
-use runfile::line::Call;
-use runfile::line::CallLine;
-use runfile::line::ObjectLine;
 use runfile::line::call_at;
 use runfile::line::object_at;
-use runfile::print::put_answer;
-use store::Child;
 use store::Reply;
-use store::Request;
 use store::Store;
+use text::print::put_answer;
+use written::Call;
+use written::CallLine;
+use written::Check;
+use written::Layout;
+use written::ObjectLine;
+use written::Part;
 
 // A byte more than a run file may have: of a file that fills so many, the rest need not be read.
 pub const INPUT: usize = 65537;
@@ -103,11 +104,11 @@ fn opened_with(file: &[u8], part: Part) -> Reply
 }
 
 // The call lines of a section that has been checked: each is made, and its answer put, before the next is read.
-fn run_calls(file: &[u8], part: Part, opened: Store, out: &mut [u8], place: usize) -> usize
+fn run_calls(file: &[u8], part: Part, opened: Reply, out: &mut [u8], place: usize) -> usize
     requires { ⌜ place + answerMost * part .lines ≤ length (now out) ⌝ }
-    ensures { λ r. ⌜ Puts (now (out .entry)) place (joined lineOf (answersTo opened (map callOf (itemsFrom (callItem (now (file .entry))) (part .lines) (part .start))))) r (now (out .exit)) ⌝ }
+    ensures { λ r. ⌜ Puts (now (out .entry)) place (joined lineOf (answersTo (opened .store) (map callOf (itemsFrom (callItem (now (file .entry))) (part .lines) (part .start))))) r (now (out .exit)) ⌝ }
 {
-    let mut store = opened;
+    let mut reply = opened;
     let mut at = part.start;
     let mut left = part.lines;
     let mut end = place;
@@ -115,10 +116,10 @@ fn run_calls(file: &[u8], part: Part, opened: Store, out: &mut [u8], place: usiz
         let CallLine::Call(call, next) = call_at(file, at) else {
             return end;
         };
-        let reply = reply_to(store, call);
+
+        reply = reply_to(reply.store, call);
         let answer = reply.answer;
         end = put_answer(out, end, answer.code, answer.a, answer.b);
-        store = reply.store;
         at = next;
         left -= 1;
     }
@@ -135,7 +136,7 @@ fn run_good(file: &[u8], layout: Layout, out: &mut [u8]) -> usize
     if answer.code != 0 {
         return end;
     }
-    run_calls(file, layout.calls, opened.store, out, end)
+    run_calls(file, layout.calls, opened, out, end)
 }
 
 fn run_into(file: &[u8], out: &mut [u8]) -> usize

@@ -18,9 +18,6 @@ decode κs a x y s t = sole
 step : Sole 0 of.step.Kinds.ps of.step.Kinds.r of.step.Reads.Learnt
 step κs a x y s t = sole
 
-numbers-of : Sole 0 of.outcome.numbers_of.Kinds.ps of.outcome.numbers_of.Kinds.r of.outcome.numbers_of.Reads.Learnt
-numbers-of κs a x y s t = sole
-
 recall : Sole 0 of.recall.Kinds.ps of.recall.Kinds.r of.recall.Reads.Learnt
 recall κs a x y s t = sole
 

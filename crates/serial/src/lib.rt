@@ -1,71 +1,20 @@
 // The serial objects of document 01: what each kind takes, what an operation does to a state and answers, and which answers conflict.
-// A kind's own part is in its own file; here the kinds are told apart.
-mod account;
-mod outcome;
-mod range;
-mod register;
-
+// The definitions of all this, and what is proved of them, are in `kinds`. A kind's own part is in its own crate; here the kinds are told apart.
 ghost use mathlib.Core.Path.{_≡_};
-ghost use Rattle.serial.specs.Kinds.{kindOf, openedOf, startOf, decodeOf, stepOf, Room, recallOf, classOf, tableOf, entry, conflictOf};
-pub use account::Account;
-pub use account::AccountOperation;
-pub use outcome::Numbers;
-pub use outcome::Outcome;
-pub use outcome::Recalled;
-pub use outcome::numbers_of;
-pub use register::Register;
-pub use register::RegisterOperation;
-
-pub enum Kind {
-    Account,
-    Register,
-    Unknown,
-}
-
-pub enum Operation {
-    Account(AccountOperation),
-    Register(RegisterOperation),
-}
-
-pub enum State {
-    Account(Account),
-    Register(Register),
-}
-
-// An operation with its outcome.
-pub struct Answered {
-    pub operation: Operation,
-    pub outcome: Outcome,
-}
-
-// The state that an object opens with.
-pub enum Opening {
-    At(State),
-    Refused,
-}
-
-// An operation that fits its kind, or code 7.
-pub enum Decoded {
-    Fit(Operation),
-    Unfit,
-}
-
-pub struct Stepped {
-    pub state: State,
-    pub outcome: Outcome,
-}
-
-// The row, and column, of an answer in the table of its kind.
-pub enum Class {
-    Row(usize),
-    None,
-}
-
-// An entry of a kind's table.
-pub enum Rule {
-    Pass,
-    Conflict,
-}
+ghost use Rattle.kinds.specs.Kinds.{kindOf, openedOf, startOf, decodeOf, stepOf, Room, recallOf, classOf, tableOf, entry, conflictOf};
+use kinds::Account;
+use kinds::Answered;
+use kinds::Class;
+use kinds::Decoded;
+use kinds::Kind;
+use kinds::Opening;
+use kinds::Operation;
+use kinds::Outcome;
+use kinds::Recalled;
+use kinds::Register;
+use kinds::Rule;
+use kinds::State;
+use kinds::Stepped;
 
 pub fn kind_of(letter: u8) -> Kind
     ensures { λ r. ⌜ r ≡ kindOf letter ⌝ }
@@ -101,8 +50,8 @@ pub fn decode(kind: Kind, operation: u32, argument: i64) -> Decoded
     ensures { λ r. ⌜ r ≡ decodeOf kind operation argument ⌝ }
 {
     match kind {
-        Kind::Account => Account::decode(operation, argument),
-        Kind::Register => Register::decode(operation, argument),
+        Kind::Account => account::decode(operation, argument),
+        Kind::Register => register::decode(operation, argument),
         Kind::Unknown => Decoded::Unfit,
     }
 }
@@ -114,14 +63,14 @@ pub fn step(state: State, operation: Operation) -> Stepped
 {
     match state {
         State::Account(account) => match operation {
-            Operation::Account(o) => account.step(o),
+            Operation::Account(o) => account::step(account, o),
             Operation::Register(_) => Stepped {
                 state,
                 outcome: Outcome::Fail,
             },
         },
         State::Register(register) => match operation {
-            Operation::Register(o) => register.step(o),
+            Operation::Register(o) => register::step(register, o),
             Operation::Account(_) => Stepped {
                 state,
                 outcome: Outcome::Fail,
@@ -134,8 +83,8 @@ pub fn recall(operation: Operation, a: u32, b: i64) -> Recalled
     ensures { λ r. ⌜ r ≡ recallOf operation a b ⌝ }
 {
     match operation {
-        Operation::Account(o) => Account::recall(o, a, b),
-        Operation::Register(o) => Register::recall(o, a, b),
+        Operation::Account(o) => account::recall(o, a, b),
+        Operation::Register(o) => register::recall(o, a, b),
     }
 }
 
@@ -146,11 +95,11 @@ fn class_of(kind: Kind, answered: Answered) -> Class
     let outcome = answered.outcome;
     match kind {
         Kind::Account => match operation {
-            Operation::Account(o) => Account::class_of(o, outcome),
+            Operation::Account(o) => account::class_of(o, outcome),
             Operation::Register(_) => Class::None,
         },
         Kind::Register => match operation {
-            Operation::Register(o) => Register::class_of(o, outcome),
+            Operation::Register(o) => register::class_of(o, outcome),
             Operation::Account(_) => Class::None,
         },
         Kind::Unknown => Class::None,

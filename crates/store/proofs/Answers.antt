@@ -19,18 +19,20 @@ use Rattle.columns.specs.Tree.{hasAborted, openChild}
 use Rattle.form.proofs.KeptAccesses.{root-plain}
 use Rattle.store.specs.declared.Store.{Store}
 use Rattle.store.specs.declared.Reply.{Reply}
-use Rattle.store.specs.declared.Child.{Child}
-use Rattle.store.specs.declared.Child.the-variants.{Plain, Access}
+use Rattle.refusal.specs.declared.Child.{Child}
+use Rattle.refusal.specs.declared.Child.the-variants.{Plain, Access}
 use Rattle.store.specs.Form.{inForm}
 use Rattle.store.specs.Lists.{rowsOf}
-use Rattle.store.specs.Refusal.{Refusal, answerOf, replyOf, decide, finished, orphaned}
-use Rattle.store.specs.Exact.{codesOf, nth, FirstToHold}
+use Rattle.refusal.specs.Refusal.{Refusal, answerOf}
+use Rattle.store.specs.Refusal.{replyOf, decide, finished, orphaned}
+use Rattle.refusal.specs.Exact.{codesOf, nth, FirstToHold}
 use Rattle.store.specs.Create.{underAccess, noObject, unfit, requestOf, created, createRefusals, createOf}
 use Rattle.store.specs.Respond.{askingOf, resultOf, responded, respondRefusals, respondOf}
 use Rattle.store.specs.Claims.{Decided}
 use Rattle.store.specs.Finish.{childOpen, unanswered, committed, commitRefusals, commitOf, aborted, abortRefusals, abortOf}
 use Rattle.store.proofs.Facts.{Form, form-facts}
-use Rattle.store.proofs.Refusals.{first-or-none, distinct, here, next, exactly, none-holds, all-pass, refused-same}
+use Rattle.refusal.proofs.Order.{first-or-none, distinct}
+use Rattle.store.proofs.Refusals.{here, next, exactly, none-holds, all-pass, refused-same}
 
 module _ (s : Store) (done : Reply) where
   first-reply : (refusals : List Refusal) (i : ℕ) → i < length refusals → FirstToHold refusals i → decide s refusals done ≡ replyOf s (nth refusals i .answer)

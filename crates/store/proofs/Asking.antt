@@ -8,14 +8,14 @@ use lib.Signed.{mag}
 use mir.Syntax.{w64}
 use mir.Val.{toZ, ofZ}
 use mir.Facts.{toZ-ofZ}
-use Rattle.serial.specs.declared.Kind.{Kind}
-use Rattle.serial.specs.declared.State.{State}
-use Rattle.serial.specs.declared.Operation.{Operation}
-use Rattle.serial.specs.declared.Decoded.{Decoded}
-use Rattle.serial.specs.declared.Decoded.the-variants.{Fit, Unfit}
-use Rattle.serial.specs.declared.Stepped.{Stepped}
-use Rattle.serial.specs.Kinds.{kindOf, openedOf, startOf, opens, stepOf, Room}
-use Rattle.serial.proofs.Claims.{no-sum-wraps}
+use Rattle.kinds.specs.declared.Kind.{Kind}
+use Rattle.kinds.specs.declared.State.{State}
+use Rattle.kinds.specs.declared.Operation.{Operation}
+use Rattle.kinds.specs.declared.Decoded.{Decoded}
+use Rattle.kinds.specs.declared.Decoded.the-variants.{Fit, Unfit}
+use Rattle.kinds.specs.declared.Stepped.{Stepped}
+use Rattle.kinds.specs.Kinds.{kindOf, openedOf, startOf, opens, stepOf, Room}
+use Rattle.kinds.proofs.Claims.{no-sum-wraps}
 use Rattle.columns.specs.Column.{at, atZ, rowsMost}
 use Rattle.columns.specs.Work.{work, listIn}
 use Rattle.form.proofs.Facts.{asked-access, once}

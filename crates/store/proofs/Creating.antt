@@ -1,28 +1,33 @@
 -- The ways of create.
-use Prim.Native.Nat.{ℕ, _+_, _<_}
-use mathlib.Core.Path.{_≡_, refl, sym, ap}
-use mathlib.Core.Bool.{false, true≢false}
+use Prim.Native.Nat.{ℕ, _+_, _<_, _≤_}
+use mathlib.Core.Path.{_≡_, refl, sym, ap, _∙_}
+use mathlib.Core.Bool.{Bool, true, false, true≢false}
 use mathlib.Core.List.{[]}
 use native.Mathlib.Omega.{arith}
 use lib.IntN.{pos}
 use borrow.Author.Tests.{ltb-false, leb-false, not-false}
-use Rattle.serial.specs.declared.Operation.{Operation}
-use Rattle.serial.specs.declared.Decoded.{Decoded}
-use Rattle.serial.specs.declared.Decoded.the-variants.{Fit, Unfit}
-use Rattle.serial.specs.Kinds.{decodeOf}
-use Rattle.serial.proofs.Fits.{fit-number}
+use Rattle.kinds.specs.declared.Operation.{Operation}
+use Rattle.kinds.specs.declared.Decoded.{Decoded}
+use Rattle.kinds.specs.declared.Decoded.the-variants.{Fit, Unfit}
+use Rattle.kinds.specs.Kinds.{decodeOf}
+use Rattle.kinds.proofs.Fits.{fit-number}
 use Rattle.columns.specs.Column.{rowsMost}
 use Rattle.form.specs.Form.{objectsMost, countMost}
 use Rattle.store.specs.declared.Store.{Store}
-use Rattle.store.specs.declared.Request.{Request}
-use Rattle.store.specs.declared.Child.{Child}
-use Rattle.store.specs.declared.Child.the-variants.{Plain, Access}
+use Rattle.refusal.specs.declared.Request.{Request}
+use Rattle.refusal.specs.declared.Child.{Child}
+use Rattle.refusal.specs.declared.Child.the-variants.{Plain, Access}
+use Rattle.store.specs.Form.{inForm}
 use Rattle.store.specs.Lists.{kindAt}
-use Rattle.store.specs.Refusal.{answerOf, replyOf, firstCode}
-use Rattle.store.specs.Exact.{NoneHolds}
-use Rattle.store.specs.Create.{noObject, unfitIn, unfit, requestOf, created, createRefusals, createOf}
-use Rattle.store.proofs.Facts.{Form, form-facts}
-use Rattle.store.proofs.Refusals.{none-first, distinct, all-pass, stops}
+use Rattle.refusal.specs.Refusal.{answerOf}
+use Rattle.refusal.specs.Order.{firstCode, Rooted, createOrder}
+use Rattle.store.specs.Refusal.{replyOf}
+use Rattle.refusal.specs.Exact.{NoneHolds}
+use Rattle.refusal.specs.Create.{unfitIn}
+use Rattle.store.specs.Create.{noObject, unfit, requestOf, created, createRefusals, createOf}
+use Rattle.store.proofs.Facts.{Form, form-facts, rooted}
+use Rattle.refusal.proofs.Order.{none-first, distinct}
+use Rattle.store.proofs.Refusals.{all-pass, stops}
 use Rattle.store.proofs.Answers.{create-order}
 
 -- what is not unfit fits
@@ -49,6 +54,14 @@ pub record Creatable (s : Store) (p : ℕ) (r : Request) : Type 0 where
 module _ (s : Store) (p : ℕ) (child : Child) where
   pub none-of : (c : ℕ) → c ≡ firstCode (createRefusals s p child) → c ≡ 0 → NoneHolds (createRefusals s p child)
   none-of c e z = none-first (createRefusals s p child) (ap distinct (create-order s p child)) (rw e at z)
+
+  -- what the function that finds the code asks, where the test says whether the store is in form; and that the code is the call's
+  pub create-asks : (fine : Bool) → fine ≡ inForm s → fine ≡ true → (s .count ≤ countMost) × (s .objects ≤ objectsMost) × Rooted (s .parent)
+  create-asks fine e t = let f = form-facts s (sym e ∙ t) in (f .tree .few, f .objects .few, rooted s f)
+
+  pub create-decides : (fine : Bool) (c : ℕ) → fine ≡ inForm s
+      → c ≡ firstCode (createOrder fine (s .count) (s .parent) (s .state) (s .operation) (s .objects) (s .kind) p child) → c ≡ firstCode (createRefusals s p child)
+  create-decides fine c e q = q ∙ ap (λ b. firstCode (createOrder b (s .count) (s .parent) (s .state) (s .operation) (s .objects) (s .kind) p child)) e
 
   pub creatable : NoneHolds (createRefusals s p child) → Creatable s p (requestOf child)
   creatable n =

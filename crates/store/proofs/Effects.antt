@@ -11,7 +11,7 @@ use lib.Seq.{getD-set-same, getD-set-other}
 use lib.Dec.{eqb}
 use borrow.Author.Tests.{eqb-true, eqb-false, leb-false, ltb-false, ne-eqb, not-false}
 use Rattle.below.proofs.Climb.{up-ind}
-use Rattle.serial.specs.declared.outcome.Numbers.{Numbers}
+use Rattle.kinds.specs.declared.outcome.Numbers.{Numbers}
 use Rattle.columns.specs.Column.{at, rowsMost}
 use Rattle.columns.specs.Tree.{hasCommitted, hasAborted, atOrAbove}
 use Rattle.columns.specs.Work.{work, onList, droppedOf, movedOf}
@@ -24,9 +24,9 @@ use Rattle.form.proofs.Facts.{Used, used-or, unanswered-unlisted}
 use Rattle.form.proofs.KeptAccesses.{root-plain}
 use Rattle.form.proofs.KeptLists.{missing}
 use Rattle.store.specs.declared.Store.{Store}
-use Rattle.store.specs.Exact.{NoneHolds}
-use Rattle.store.specs.declared.Request.{Request}
-use Rattle.store.specs.declared.Child.{Child}
+use Rattle.refusal.specs.Exact.{NoneHolds}
+use Rattle.refusal.specs.declared.Request.{Request}
+use Rattle.refusal.specs.declared.Child.{Child}
 use Rattle.store.specs.Lists.{rowsOf, listOf}
 use Rattle.store.specs.Create.{requestOf, created, createOf}
 use Rattle.store.specs.Respond.{askingOf, resultOf, responded, respondRefusals, respondOf}

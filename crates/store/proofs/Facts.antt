@@ -14,6 +14,7 @@ use Rattle.form.proofs.Facts.{Objects, Tree, Accesses, Lists, objects-facts, ob
 use Rattle.store.specs.declared.Store.{Store}
 use Rattle.store.specs.Lists.{rowsOf}
 use Rattle.store.specs.Form.{inForm}
+use Rattle.refusal.specs.Order.{Rooted}
 
 pub record Form (s : Store) : Type 0 where
   pub objects : Objects (s .objects) (s .kind) (s .opening)
@@ -64,6 +65,9 @@ module _ (s : Store) where
   parent-known f t h =
       ⊎-elim (λ z. let p : at (s .parent) t ≡ 0 = f .tree .unused-parent t h (λ u. omega arith) in omega arith)
       (λ n. let l = lower f .lower t (omega arith) h in omega arith) (same-or t 0)
+
+  pub rooted : Form s → Rooted (s .parent)
+  rooted f = (lower f, parent-known f)
 
 -- the ways of the test, in the order of its parts
 module _ (s : Store) where

@@ -1,7 +1,7 @@
 -- The ways of commit and abort.
 use Prim.Native.Nat.{ℕ, _<_, _≤_}
 use mathlib.Core.Path.{_≡_, refl, sym, ap, _∙_}
-use mathlib.Core.Bool.{true, false, _&&_}
+use mathlib.Core.Bool.{Bool, true, false, _&&_}
 use mathlib.Core.List.{[], _∷_}
 use native.Mathlib.Omega.{arith}
 use lib.IntN.{pos}
@@ -12,11 +12,15 @@ use Rattle.below.proofs.Search.{first-any}
 use Rattle.columns.specs.Column.{at, rowsMost}
 use Rattle.columns.specs.Tree.{openChild}
 use Rattle.store.specs.declared.Store.{Store}
+use Rattle.form.specs.Form.{countMost}
+use Rattle.store.specs.Form.{inForm}
 use Rattle.store.specs.Lists.{rowsOf}
-use Rattle.store.specs.Refusal.{answerOf, replyOf, firstCode}
-use Rattle.store.specs.Exact.{NoneHolds}
+use Rattle.refusal.specs.Refusal.{answerOf}
+use Rattle.refusal.specs.Order.{firstCode, Rooted, finishOrder}
+use Rattle.store.specs.Refusal.{replyOf}
+use Rattle.refusal.specs.Exact.{NoneHolds}
 use Rattle.store.specs.Finish.{childOpen, unanswered, committed, commitOf, aborted, abortRefusals, abortOf}
-use Rattle.store.proofs.Facts.{Form, form-facts}
+use Rattle.store.proofs.Facts.{Form, form-facts, rooted}
 use Rattle.store.proofs.Refusals.{here, next, through, all-pass, stops, passes}
 
 -- what is known of a transaction that both may finish
@@ -33,7 +37,14 @@ finishable s t n =
     let some = eqb-false t 0 (n 2 (omega arith)) in
     record { form = form; some = omega arith; known = known; row = omega (arith, form .tree .few) }
 
+-- what the functions that find the code ask, where the test says whether the store is in form
+pub finish-asks : (s : Store) (fine : Bool) → fine ≡ inForm s → fine ≡ true → (s .count ≤ countMost) × Rooted (s .parent)
+finish-asks s fine e t = let f = form-facts s (sym e ∙ t) in (f .tree .few, rooted s f)
+
 module _ (s : Store) (t : ℕ) where
+  pub finish-decides : (fine : Bool) (c : ℕ) → fine ≡ inForm s → c ≡ firstCode (finishOrder fine (s .count) (s .parent) (s .state) t) → c ≡ firstCode (abortRefusals s t)
+  finish-decides fine c e q = q ∙ ap (λ b. firstCode (finishOrder b (s .count) (s .parent) (s .state) t)) e
+
   pub abort-refused : (c : ℕ) → c ≡ firstCode (abortRefusals s t) → (c ≡ 0 → ⊥) → replyOf s (answerOf c 0 (pos 0)) ≡ abortOf s t
   unfolding abortOf
   abort-refused c e n = stops [] s _ (abortRefusals s t) c (refl, (refl, (refl, (refl, (refl, tt))))) e n

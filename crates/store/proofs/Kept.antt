@@ -12,12 +12,12 @@ use borrow.Author.Tests.{ltb-false, leb-false, eqb-true, eqb-false, not-false}
 use Rattle.below.proofs.Tests.{and-snd}
 use Rattle.below.proofs.Search.{all-at}
 use Rattle.below.proofs.Column.{set-at, set-past, filled-at}
-use Rattle.serial.specs.declared.Operation.{Operation}
-use Rattle.serial.specs.declared.Decoded.the-variants.{Fit}
-use Rattle.serial.specs.Kinds.{decodeOf, stepOf}
-use Rattle.serial.specs.Outcome.{numbersOf}
-use Rattle.serial.proofs.Claims.{answers-recalled}
-use Rattle.serial.proofs.Fits.{fit-number}
+use Rattle.kinds.specs.declared.Operation.{Operation}
+use Rattle.kinds.specs.declared.Decoded.the-variants.{Fit}
+use Rattle.kinds.specs.Kinds.{decodeOf, stepOf}
+use Rattle.kinds.specs.Outcome.{numbersOf}
+use Rattle.kinds.proofs.Claims.{answers-recalled}
+use Rattle.kinds.proofs.Fits.{fit-number}
 use Rattle.columns.specs.Column.{at, atZ, rowsMost}
 use Rattle.columns.specs.Tree.{hasCommitted, hasAborted, atOrAbove}
 use Rattle.columns.specs.declared.order.Work.{Work}
@@ -27,22 +27,25 @@ use Rattle.form.proofs.KeptTree.{set-next, state-kept, tree-created, tree-opene
 use Rattle.form.proofs.KeptAccesses.{root-plain, answer-kept, plain-created, access-created, accesses-opened, objects-none}
 use Rattle.form.proofs.KeptLists.{dropped-kept, moved-kept, answered-kept, lists-created, lists-opened}
 use Rattle.store.specs.declared.Store.{Store}
-use Rattle.store.specs.declared.Request.{Request}
-use Rattle.store.specs.declared.Child.{Child}
-use Rattle.store.specs.declared.Child.the-variants as C
+use Rattle.refusal.specs.declared.Request.{Request}
+use Rattle.refusal.specs.declared.Child.{Child}
+use Rattle.refusal.specs.declared.Child.the-variants as C
 use Rattle.store.specs.Form.{inForm}
-use Rattle.store.specs.Refusal.{Refusal, malformed}
-use Rattle.store.specs.Exact.{FirstToHold}
+use Rattle.refusal.specs.Refusal.{Refusal}
+use Rattle.store.specs.Refusal.{malformed}
+use Rattle.refusal.specs.Exact.{FirstToHold}
 use Rattle.store.specs.Lists.{kindAt, askedAt, stateFor}
 use Rattle.store.specs.Create.{noObject, unfit, requestOf, created, createRefusals, createOf}
 use Rattle.store.specs.Respond.{askingOf, resultOf, responded, respondRefusals, respondOf}
 use Rattle.store.specs.Finish.{finishedAs, committed, commitRefusals, commitOf, aborted, abortRefusals, abortOf}
-use Rattle.store.specs.Open.{storeOf, opensAt, openable, openedStore, openOf}
+use Rattle.refusal.specs.Open.{opensAt, openable}
+use Rattle.store.specs.Open.{storeOf, openedStore, openOf}
 use Rattle.store.specs.Effects.{Sized}
 use Rattle.store.proofs.Facts.{Form, form-facts, facts-form}
 use Rattle.store.proofs.Refusals.{handed-back}
 use Rattle.store.proofs.Answers.{create-codes, respond-codes, commit-codes, abort-codes}
-use Rattle.store.proofs.Opens.{few, opened-or-empty}
+use Rattle.refusal.proofs.Opens.{few}
+use Rattle.store.proofs.Opens.{opened-or-empty}
 use Rattle.store.proofs.Creating.{fitting}
 use Rattle.store.proofs.Responding.{Askable, has-place}
 use Rattle.store.proofs.Effects.{accepted-asks}

@@ -12,4 +12,3 @@ pub mod Answers
 pub mod Waits
 pub mod Effects
 pub mod Sole
-pub mod Calls

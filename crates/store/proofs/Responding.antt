@@ -1,7 +1,7 @@
 -- The ways of respond.
 use Prim.Native.Nat.{ℕ, _<_, _≤_}
 use mathlib.Core.Path.{_≡_, refl, ap, _∙_}
-use mathlib.Core.Bool.{true}
+use mathlib.Core.Bool.{Bool, true}
 use mathlib.Core.List.{[], _∷_}
 use native.Mathlib.Omega.{arith}
 use lib.IntN.{ℤ, pos}
@@ -9,18 +9,20 @@ use borrow.Author.Tests.{ltb-false, eqb-true, eqb-false, not-false, lt-ltb, le-l
 use Rattle.columns.specs.Column.{at, placesMost}
 use Rattle.form.proofs.Facts.{unanswered-unlisted}
 use Rattle.form.proofs.KeptLists.{place-left}
-use Rattle.serial.specs.declared.Answered.{Answered}
-use Rattle.serial.specs.declared.outcome.Outcome.{Outcome}
-use Rattle.serial.specs.declared.outcome.Outcome.the-variants.{Ok, Fail, Value}
-use Rattle.serial.specs.declared.outcome.Numbers.{Numbers}
-use Rattle.serial.specs.Outcome.{numbersOf}
+use Rattle.kinds.specs.declared.Answered.{Answered}
+use Rattle.kinds.specs.declared.outcome.Outcome.{Outcome}
+use Rattle.kinds.specs.declared.outcome.Outcome.the-variants.{Ok, Fail, Value}
+use Rattle.kinds.specs.declared.outcome.Numbers.{Numbers}
+use Rattle.kinds.specs.Outcome.{numbersOf}
 use Rattle.replay.specs.declared.access.Recorded.{Recorded}
 use Rattle.replay.specs.declared.access.Recorded.the-variants.{As, Nothing}
 use Rattle.store.specs.declared.Store.{Store}
 use Rattle.store.specs.Form.{inForm}
 use Rattle.store.specs.Lists.{rowsOf}
-use Rattle.store.specs.Refusal.{answerOf, replyOf, firstCode}
-use Rattle.store.specs.Exact.{NoneHolds}
+use Rattle.refusal.specs.Refusal.{answerOf}
+use Rattle.refusal.specs.Order.{firstCode, askOrder}
+use Rattle.store.specs.Refusal.{replyOf}
+use Rattle.refusal.specs.Exact.{NoneHolds}
 use Rattle.store.specs.Respond.{askingOf, waitFor, responded, mustWait, askRefusals, respondOf}
 use Rattle.store.proofs.Facts.{form-facts}
 use Rattle.store.proofs.Refusals.{here, next, through, stops, passes}
@@ -55,6 +57,10 @@ module _ (s : Store) (t : ℕ) where
         asks = eqb-false (at (s .operation) t) 0 (n 3 (omega arith));
         blank = eqb-true (at (s .outcome) t) 0 (not-false _ (n 6 (omega arith)));
       }
+
+  pub ask-decides : (fine : Bool) (c : ℕ) → fine ≡ inForm s
+      → c ≡ firstCode (askOrder fine (s .count) (s .parent) (s .state) (s .operation) (s .outcome) t) → c ≡ firstCode (askRefusals s t)
+  ask-decides fine c e q = q ∙ ap (λ b. firstCode (askOrder b (s .count) (s .parent) (s .state) (s .operation) (s .outcome) t)) e
 
   -- an unanswered access is on no list, and there is a place for it
   pub has-place : Askable s t → s .listed < placesMost

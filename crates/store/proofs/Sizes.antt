@@ -10,9 +10,9 @@ use Rattle.columns.specs.Work.{workOf}
 use Rattle.columns.proofs.Work.{length-laid, length-numbered}
 use Rattle.form.specs.Form.{objectsMost}
 use Rattle.store.specs.declared.Store.{Store}
-use Rattle.store.specs.declared.Child.{Child}
-use Rattle.store.specs.declared.Request.{Request}
-use Rattle.serial.specs.declared.outcome.Numbers.{Numbers}
+use Rattle.refusal.specs.declared.Child.{Child}
+use Rattle.refusal.specs.declared.Request.{Request}
+use Rattle.kinds.specs.declared.outcome.Numbers.{Numbers}
 use Rattle.store.specs.Create.{requestOf, created, createOf}
 use Rattle.store.specs.Respond.{responded, respondOf, resultOf, askingOf}
 use Rattle.store.specs.Finish.{finishedAs, commitOf, abortOf}

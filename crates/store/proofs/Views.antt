@@ -6,9 +6,9 @@ use mathlib.Core.List.{_++_}
 use native.Mathlib.Omega.{arith}
 use lib.ListN.{length}
 use Rattle.below.proofs.Climb.{lower-to}
-use Rattle.serial.specs.Kinds.{Bounded}
-use Rattle.serial.specs.Object.{StateOf}
-use Rattle.serial.proofs.Takes.{grown-has}
+use Rattle.kinds.specs.Kinds.{Bounded}
+use Rattle.kinds.specs.Object.{StateOf}
+use Rattle.kinds.proofs.Takes.{grown-has}
 use Rattle.columns.specs.Column.{at, atZ, rowsMost}
 use Rattle.columns.specs.Work.{work}
 use Rattle.columns.proofs.Work.{length-work}

@@ -10,9 +10,9 @@ use borrow.Author.Tests.{eqb-true, eqb-false, eq-eqb, ne-eqb, ltb-false, not-tru
 use Rattle.below.specs.Below.{anyBelow, firstBelow, Lowest}
 use Rattle.below.proofs.Tests.{le-or, and-fst, and-snd}
 use Rattle.below.proofs.Search.{any-found, first-lowest, first-any}
-use Rattle.serial.specs.declared.Answered.{Answered}
-use Rattle.serial.specs.declared.Decoded.{Decoded}
-use Rattle.serial.specs.Kinds.{stepOf}
+use Rattle.kinds.specs.declared.Answered.{Answered}
+use Rattle.kinds.specs.declared.Decoded.{Decoded}
+use Rattle.kinds.specs.Kinds.{stepOf}
 use Rattle.columns.specs.Column.{at, atZ, rowsMost}
 use Rattle.columns.specs.Tree.{atOrAbove}
 use Rattle.columns.specs.Work.{work, Found}
@@ -22,12 +22,12 @@ use Rattle.form.proofs.Facts.{Used, Fits, asked-access, answered-access}
 use Rattle.form.proofs.KeptLists.{known, placed-found, found-placed}
 use Rattle.replay.specs.declared.access.Recorded.the-variants.{As}
 use Rattle.replay.specs.Access.{recordedOf, answeredAs}
-use Rattle.replay.specs.Wait.{blocks, clashes}
+use Rattle.wait.specs.Wait.{blocks, clashes}
 use Rattle.store.specs.declared.Store.{Store}
-use Rattle.store.specs.Exact.{FirstToHold}
+use Rattle.refusal.specs.Exact.{FirstToHold}
 use Rattle.store.specs.Form.{inForm}
 use Rattle.store.specs.Lists.{rowsOf, listOf, kindAt, askedAt, recordedAt, stateFor}
-use Rattle.store.specs.Refusal.{answerOf}
+use Rattle.refusal.specs.Refusal.{answerOf}
 use Rattle.store.specs.Claims.{Asking, Conflicting, Waits, Granted}
 use Rattle.store.specs.Respond.{answerIn, askingOf, waitFor, resultOf, mustWait, respondRefusals, respondOf}
 use Rattle.store.proofs.Facts.{Form, form-facts}

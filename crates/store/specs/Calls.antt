@@ -2,9 +2,9 @@
 use Prim.Native.Nat.{ℕ}
 use mathlib.Core.List.{List, [], _∷_}
 use Rattle.store.specs.declared.Store.{Store}
-use Rattle.store.specs.declared.Answer.{Answer}
+use Rattle.refusal.specs.declared.Answer.{Answer}
 use Rattle.store.specs.declared.Reply.{Reply}
-use Rattle.store.specs.declared.Child.{Child}
+use Rattle.refusal.specs.declared.Child.{Child}
 use Rattle.store.specs.Create.{createOf}
 use Rattle.store.specs.Respond.{respondOf}
 use Rattle.store.specs.Finish.{commitOf, abortOf}
@@ -14,10 +14,6 @@ pub data Call : Type 0 where
   respond : ℕ → Call
   commit : ℕ → Call
   abort : ℕ → Call
-
--- the highest code of a call or an opening; 16 is the program's
-abbrev pub codeMost : ℕ
-codeMost = 15
 
 -- what the code's call of that name is proved to hand back
 abbrev pub replyTo : Store → Call → Reply

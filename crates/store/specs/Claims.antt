@@ -7,20 +7,21 @@ use mathlib.Core.Logic.{_↔_}
 use mathlib.Core.List.{List}
 use lib.IntN.{pos}
 use lib.ListN.{length}
-use Rattle.serial.specs.declared.Answered.{Answered}
-use Rattle.serial.specs.declared.Decoded.the-variants.{Fit}
-use Rattle.serial.specs.Kinds.{conflictOf, stepOf}
-use Rattle.serial.specs.Outcome.{numbersOf}
+use Rattle.kinds.specs.declared.Answered.{Answered}
+use Rattle.kinds.specs.declared.Decoded.the-variants.{Fit}
+use Rattle.kinds.specs.Kinds.{conflictOf, stepOf}
+use Rattle.kinds.specs.Outcome.{numbersOf}
 use Rattle.columns.specs.Column.{at}
 use Rattle.columns.specs.Tree.{atOrAbove}
 use Rattle.columns.specs.Work.{Found}
 use Rattle.replay.specs.declared.access.Recorded.the-variants.{As}
 use Rattle.store.specs.declared.Store.{Store}
-use Rattle.store.specs.declared.Answer.{Answer}
+use Rattle.refusal.specs.declared.Answer.{Answer}
 use Rattle.store.specs.declared.Reply.{Reply}
 use Rattle.store.specs.Lists.{listOf, kindAt, askedAt, recordedAt, stateFor}
-use Rattle.store.specs.Refusal.{Refusal, answerOf, replyOf}
-use Rattle.store.specs.Exact.{nth, FirstToHold, NoneHolds}
+use Rattle.refusal.specs.Refusal.{Refusal, answerOf}
+use Rattle.store.specs.Refusal.{replyOf}
+use Rattle.refusal.specs.Exact.{nth, FirstToHold, NoneHolds}
 
 -- what its order of refusals says of a call's reply; `done` is what the call hands back where none holds
 pub record Decided (s : Store) (refusals : List Refusal) (done reply : Reply) : Type 0 where

@@ -1,43 +1,30 @@
 -- Create. Source: document 01, "Calls, answers and their order".
 use Prim.Native.Nat.{ℕ, _+_}
-use mathlib.Core.Bool.{Bool, true, false, not}
+use mathlib.Core.Bool.{not}
 use mathlib.Core.List.{List, [], _∷_}
 use lib.IntN.{pos}
 use lib.ListN.{set}
 use lib.Dec.{eqb, leb}
-use Rattle.serial.specs.declared.Decoded.{Decoded}
-use Rattle.serial.specs.declared.Decoded.the-variants.{Fit, Unfit}
-use Rattle.serial.specs.Kinds.{kindOf, decodeOf}
 use Rattle.columns.specs.Column.{at}
 use Rattle.form.specs.Form.{countMost}
 use Rattle.store.specs.declared.Store.{Store}
 use Rattle.store.specs.declared.Reply.{Reply}
-use Rattle.store.specs.declared.Request.{Request}
-use Rattle.store.specs.declared.Child.{Child}
-use Rattle.store.specs.declared.Child.the-variants.{Plain, Access}
-use Rattle.store.specs.Refusal.{Refusal, answerOf, replyOf, decide, refuse, malformed, missing, finished, orphaned}
+use Rattle.refusal.specs.declared.Request.{Request}
+use Rattle.refusal.specs.declared.Child.{Child}
+use Rattle.refusal.specs.declared.Child.the-variants.{Plain, Access}
+use Rattle.refusal.specs.Create.{lacksObject, asksUnfit}
+use Rattle.refusal.specs.Refusal.{Refusal, answerOf, refuse}
+use Rattle.store.specs.Refusal.{replyOf, decide, malformed, missing, finished, orphaned}
 
 -- 3: create under an access
 abbrev pub underAccess : Store → ℕ → Refusal
 underAccess s p = refuse 3 (not (eqb (at (s .operation) p) 0))
 
 -- 6: create of an access: no such object
-abbrev pub lacksObject : ℕ → Child → Bool
-lacksObject objects Plain = false
-lacksObject objects (Access r) = leb objects (r .object)
-
 abbrev pub noObject : Store → Child → Refusal
 noObject s child = refuse 6 (lacksObject (s .objects) child)
 
 -- 7: operation unknown, not of this kind, or argument outside its range
-abbrev pub unfitIn : Decoded → Bool
-unfitIn (Fit o) = false
-unfitIn Unfit = true
-
-abbrev pub asksUnfit : List ℕ → Child → Bool
-asksUnfit kind Plain = false
-asksUnfit kind (Access r) = unfitIn (decodeOf (kindOf (at kind (r .object))) (r .operation) (r .argument))
-
 abbrev pub unfit : Store → Child → Refusal
 unfit s child = refuse 7 (asksUnfit (s .kind) child)
 

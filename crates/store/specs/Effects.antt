@@ -8,9 +8,9 @@ use lib.ListN.{length}
 use Rattle.columns.specs.Column.{at, atZ, rowsMost, placesMost}
 use Rattle.columns.specs.Tree.{isOpen, hasCommitted, hasAborted, atOrAbove}
 use Rattle.form.specs.Form.{objectsMost}
-use Rattle.serial.specs.declared.outcome.Numbers.{Numbers}
+use Rattle.kinds.specs.declared.outcome.Numbers.{Numbers}
 use Rattle.store.specs.declared.Store.{Store}
-use Rattle.store.specs.declared.Request.{Request}
+use Rattle.refusal.specs.declared.Request.{Request}
 use Rattle.store.specs.Lists.{listOf}
 
 -- a transaction's row, without its place on a list

@@ -13,7 +13,8 @@ use Rattle.columns.specs.declared.order.Work.{Work}
 use Rattle.store.specs.declared.Store.{Store}
 use Rattle.store.specs.declared.Reply.{Reply}
 use Rattle.store.specs.Lists.{rowsOf}
-use Rattle.store.specs.Refusal.{Refusal, answerOf, replyOf, decide, refuse, malformed, missing, isRoot, finished, orphaned}
+use Rattle.refusal.specs.Refusal.{Refusal, answerOf, refuse}
+use Rattle.store.specs.Refusal.{replyOf, decide, malformed, missing, isRoot, finished, orphaned}
 
 -- the store with t in another state, and other lists
 abbrev pub finishedAs : Store → ℕ → ℕ → Work → Store

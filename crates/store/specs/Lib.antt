@@ -1,7 +1,6 @@
 pub mod Lists
 pub mod Form
 pub mod Refusal
-pub mod Exact
 pub mod Create
 pub mod Respond
 pub mod Finish

@@ -1,10 +1,10 @@
 -- The lists of work and the views of a store. Source: document 01, "Lists of work".
 use Prim.Native.Nat.{ℕ, _+_}
 use mathlib.Core.List.{List}
-use Rattle.serial.specs.declared.Kind.{Kind}
-use Rattle.serial.specs.declared.State.{State}
-use Rattle.serial.specs.declared.Decoded.{Decoded}
-use Rattle.serial.specs.Kinds.{kindOf, openedOf, startOf}
+use Rattle.kinds.specs.declared.Kind.{Kind}
+use Rattle.kinds.specs.declared.State.{State}
+use Rattle.kinds.specs.declared.Decoded.{Decoded}
+use Rattle.kinds.specs.Kinds.{kindOf, openedOf, startOf}
 use Rattle.columns.specs.Column.{at, atZ}
 use Rattle.columns.specs.Work.{work, listIn}
 use Rattle.replay.specs.declared.access.Recorded.{Recorded}

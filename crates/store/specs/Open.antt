@@ -1,17 +1,17 @@
 -- Opening a store. Source: document 01, "Objects and numbers" and "Calls, answers and their order", code 14.
 use Prim.Native.Nat.{ℕ}
-use mathlib.Core.Bool.{Bool, cond, _&&_}
+use mathlib.Core.Bool.{cond}
 use mathlib.Core.List.{List}
 use lib.IntN.{ℤ, pos}
 use lib.ListN.{length, replicate}
-use lib.Dec.{eqb, leb, ltb}
-use Rattle.below.specs.Below.{allBelow, setBelow}
-use Rattle.serial.specs.Kinds.{kindOf, openedOf, opens}
+use Rattle.below.specs.Below.{setBelow}
 use Rattle.columns.specs.Column.{at, atZ, rowsMost, placesMost}
 use Rattle.form.specs.Form.{objectsMost}
 use Rattle.store.specs.declared.Store.{Store}
 use Rattle.store.specs.declared.Reply.{Reply}
-use Rattle.store.specs.Refusal.{answerOf, replyOf}
+use Rattle.refusal.specs.Open.{openable}
+use Rattle.refusal.specs.Refusal.{answerOf}
+use Rattle.store.specs.Refusal.{replyOf}
 
 -- the store with these objects, numbered from 0 in the order of the opening, and no transactions
 abbrev pub storeOf : ℕ → List ℕ → List ℤ → Store
@@ -36,16 +36,6 @@ storeOf objects kind opening = record {
 -- the store with no objects and no transactions
 abbrev pub emptyStore : Store
 emptyStore = storeOf 0 (replicate objectsMost 0) (replicate objectsMost (pos 0))
-
--- the kind of object o is known and its opening in range
-abbrev pub opensAt : List ℕ → List ℤ → ℕ → Bool
-opensAt kinds openings o = opens (openedOf (kindOf (at kinds o)) (atZ openings o))
-
--- one opening value for each kind, some object, at most 64, each kind known and each opening in its range
-abbrev pub openable : List ℕ → List ℤ → Bool
-openable kinds openings =
-    eqb (length kinds) (length openings) && (ltb 0 (length kinds) && (leb (length kinds) objectsMost
-    && allBelow (length kinds) (opensAt kinds openings)))
 
 abbrev pub openedStore : List ℕ → List ℤ → Store
 openedStore kinds openings =

@@ -1,40 +1,23 @@
 -- Refusals, and the order in which they are tried. Source: document 01, "Calls, answers and their order".
 use Prim.Native.Nat.{ℕ}
-use mathlib.Core.Bool.{Bool, cond, not}
+use mathlib.Core.Bool.{cond, not}
 use mathlib.Core.List.{List, [], _∷_}
-use lib.IntN.{ℤ, pos}
 use lib.Dec.{eqb, ltb}
 use Rattle.columns.specs.Column.{at}
 use Rattle.columns.specs.Tree.{isOpen, abortedUp}
+use Rattle.refusal.specs.Refusal.{Refusal, refuse}
 use Rattle.store.specs.declared.Store.{Store}
-use Rattle.store.specs.declared.Answer.{Answer}
+use Rattle.refusal.specs.declared.Answer.{Answer}
 use Rattle.store.specs.declared.Reply.{Reply}
 use Rattle.store.specs.Form.{inForm}
 
-abbrev pub answerOf : ℕ → ℕ → ℤ → Answer
-answerOf code a b = record { code = code; a = a; b = b }
-
 abbrev pub replyOf : Store → Answer → Reply
 replyOf s answer = record { store = s; answer = answer }
-
--- when it is given, and the answer then
-pub record Refusal : Type 0 where
-  pub when : Bool
-  pub answer : Answer
 
 -- the first refusal whose condition holds, with the store as it came in; where none holds, what is done
 unfoldable pub decide : Store → List Refusal → Reply → Reply
 decide s [] done = done
 decide s (r ∷ rest) done = cond (r .when) (replyOf s (r .answer)) (decide s rest done)
-
--- the code of the first whose condition holds, or 0; the code's own, for functions that try several refusals
-unfoldable pub firstCode : List Refusal → ℕ
-firstCode [] = 0
-firstCode (r ∷ rest) = cond (r .when) (r .answer .code) (firstCode rest)
-
--- a code with 0, 0
-abbrev pub refuse : ℕ → Bool → Refusal
-refuse code when = record { when = when; answer = answerOf code 0 (pos 0) }
 
 -- 15: the store handed in breaks a form rule
 abbrev pub malformed : Store → Refusal

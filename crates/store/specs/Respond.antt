@@ -6,21 +6,22 @@ use lib.IntN.{pos}
 use lib.ListN.{set}
 use lib.Dec.{eqb, ltb}
 use Rattle.below.specs.Below.{firstBelow}
-use Rattle.serial.specs.declared.State.{State}
-use Rattle.serial.specs.declared.Decoded.{Decoded}
-use Rattle.serial.specs.declared.Decoded.the-variants.{Fit, Unfit}
-use Rattle.serial.specs.declared.outcome.Outcome.the-variants.{Fail}
-use Rattle.serial.specs.declared.outcome.Numbers.{Numbers}
-use Rattle.serial.specs.Kinds.{stepOf}
-use Rattle.serial.specs.Outcome.{numbersOf}
+use Rattle.kinds.specs.declared.State.{State}
+use Rattle.kinds.specs.declared.Decoded.{Decoded}
+use Rattle.kinds.specs.declared.Decoded.the-variants.{Fit, Unfit}
+use Rattle.kinds.specs.declared.outcome.Outcome.the-variants.{Fail}
+use Rattle.kinds.specs.declared.outcome.Numbers.{Numbers}
+use Rattle.kinds.specs.Kinds.{stepOf}
+use Rattle.kinds.specs.Outcome.{numbersOf}
 use Rattle.columns.specs.Column.{at}
 use Rattle.replay.specs.declared.access.Recorded.{Recorded}
 use Rattle.replay.specs.declared.access.Recorded.the-variants.{As, Nothing}
-use Rattle.replay.specs.Wait.{blocks}
+use Rattle.wait.specs.Wait.{blocks}
 use Rattle.store.specs.declared.Store.{Store}
 use Rattle.store.specs.declared.Reply.{Reply}
 use Rattle.store.specs.Lists.{rowsOf, kindAt, askedAt, recordedAt, stateFor}
-use Rattle.store.specs.Refusal.{Refusal, answerOf, replyOf, decide, refuse, malformed, missing, isRoot, finished, orphaned}
+use Rattle.refusal.specs.Refusal.{Refusal, answerOf, refuse}
+use Rattle.store.specs.Refusal.{replyOf, decide, malformed, missing, isRoot, finished, orphaned}
 
 -- what the serial object answers
 abbrev pub answerIn : State → Decoded → Recorded

@@ -1,44 +1,20 @@
 // Opening a store.
 ghost use mathlib.Core.Path.{_≡_};
-ghost use Rattle.store.specs.Open.{openable, storeOf, openOf};
+ghost use Rattle.store.specs.Open.{storeOf, openOf};
 ghost use Prim.Native.Nat.{_≤_};
 ghost use lib.IntN.{pos};
 ghost use lib.ListN.{length, replicate};
 ghost use Rattle.below.specs.Below.{setBelow};
 ghost use Rattle.columns.specs.Column.{at, atZ};
 ghost use Rattle.form.specs.Form.{objectsMost};
-use crate::Answer;
 use crate::Reply;
 use crate::Store;
-use crate::refusal;
 use columns::order::PLACES;
 use columns::tree::ROWS;
 use form::OBJECTS;
-use form::opens;
-
-// Whether each kind has an opening value in its range, for some object and at most 64.
-fn openable<'a>(kinds: &'a [u8], openings: &'a [i64]) -> bool
-    ensures { λ r. ⌜ r ≡ openable (now (kinds .entry)) (now (openings .entry)) ⌝ }
-{
-    let objects = kinds.len();
-    if objects != openings.len() {
-        return false;
-    }
-    if objects == 0 {
-        return false;
-    }
-    if OBJECTS < objects {
-        return false;
-    }
-    let mut i = 0;
-    while i < objects {
-        if !opens(kinds[i], openings[i]) {
-            return false;
-        }
-        i += 1;
-    }
-    true
-}
+use refusal::Answer;
+use refusal::openable;
+use refusal::refused;
 
 fn kind_column(kinds: &[u8]) -> [u8; OBJECTS]
     requires { ⌜ length (now kinds) ≤ objectsMost ⌝ }
@@ -98,7 +74,7 @@ impl Store {
         if !openable(kinds, openings) {
             return Reply {
                 store: Store::with_objects(0, [0; OBJECTS], [0; OBJECTS]),
-                answer: refusal(14),
+                answer: refused(14),
             };
         }
         let objects = kinds.len();

@@ -6,9 +6,9 @@ use lib.ListN.{length, length-set}
 use mir.Syntax.{w64}
 use mir.Val.{SFits, toZ, ofZ}
 use mir.ValLaws.{toZ-ofZ}
-use Rattle.runfile.specs.Written.{Object, objectsMost}
-use Rattle.runfile.specs.Items.{itemsFrom}
-use Rattle.runfile.specs.Check.{objectItem}
+use Rattle.written.specs.Written.{Object, objectsMost}
+use Rattle.written.specs.Items.{itemsFrom}
+use Rattle.written.specs.Check.{objectItem}
 use Rattle.runner.proofs.Columns.{columnsFrom, columns-start, columns-done, columns-wrong, columns-more}
 use Rattle.runner.proofs.objects_in.Statement.{statement}
 use Rattle.runner.proofs.objects_in.Tie as tie

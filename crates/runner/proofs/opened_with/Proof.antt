@@ -4,10 +4,10 @@ use mathlib.Core.List.{List, map}
 use native.Mathlib.Omega.{arith}
 use lib.IntN.{ℤ}
 use borrow.Author.Needs.{needs}
-use Rattle.runfile.specs.Written.{Object}
-use Rattle.runfile.specs.Items.{itemsFrom}
-use Rattle.runfile.specs.Check.{objectItem}
-use Rattle.runfile.proofs.Items.{items-most}
+use Rattle.written.specs.Written.{Object}
+use Rattle.written.specs.Items.{itemsFrom}
+use Rattle.written.specs.Check.{objectItem}
+use Rattle.written.proofs.Items.{items-most}
 use Rattle.store.specs.Open.{openOf}
 use Rattle.runner.proofs.Columns.{Front, columns-front}
 use Rattle.runner.proofs.opened_with.Statement.{statement}

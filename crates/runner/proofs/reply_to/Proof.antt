@@ -3,11 +3,11 @@ use borrow.Author.Needs.{needs}
 use mir.Syntax.{w64}
 use mir.Val.{SFits}
 use mir.ValLaws.{toZ-ofZ}
-use Rattle.runfile.specs.declared.line.Call.{Call}
+use Rattle.written.specs.declared.Call.{Call}
 use Rattle.store.specs.declared.Store.{Store}
 use Rattle.store.specs.declared.Reply.{Reply}
 use Rattle.store.specs.Calls.{replyTo}
-use Rattle.runner.specs.Output.{callOf}
+use Rattle.output.specs.Output.{callOf}
 use Rattle.runner.proofs.reply_to.Statement.{statement}
 use Rattle.runner.proofs.reply_to.Tie as tie
 

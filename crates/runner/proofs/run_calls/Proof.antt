@@ -7,28 +7,28 @@ use borrow.Author.Needs.{needs}
 use mir.Syntax.{w64}
 use mir.Val.{SFits}
 use mir.ValLaws.{toZ-ofZ}
-use Rattle.runfile.specs.Text.{answerMost, codesBelow}
-use Rattle.runfile.specs.Puts.{Puts}
-use Rattle.runfile.proofs.Printing.{put-then, put-none, answer-most}
-use Rattle.runner.specs.Output.{lineOf}
-use Rattle.runner.proofs.Lines.{printedFrom, code-low, printed-done, printed-wrong, printed-more}
+use Rattle.text.specs.Text.{answerMost, codesBelow}
+use Rattle.text.specs.Puts.{Puts}
+use Rattle.text.proofs.Printing.{put-then, put-none, answer-most}
+use Rattle.output.specs.Output.{lineOf}
+use Rattle.output.proofs.Lines.{printedFrom, code-low, printed-done, printed-wrong, printed-more}
 use Rattle.runner.proofs.run_calls.Statement.{statement}
 use Rattle.runner.proofs.run_calls.Tie as tie
 
 abbrev Inv-loop : tie.InvT-loop
-Inv-loop file out₀ place store₀ at₀ left₀ end₀ out store at left end =
+Inv-loop file out₀ place reply₀ at₀ left₀ end₀ out reply at left end =
     (end + answerMost * left ≤ length out) × (length out ≡ length out₀)
-    × ((r : ℕ) (exit : List ℕ) → Puts out end (printedFrom store file left at) r exit → Puts out₀ place (printedFrom store₀ file left₀ at₀) r exit)
+    × ((r : ℕ) (exit : List ℕ) → Puts out end (printedFrom (reply .store) file left at) r exit → Puts out₀ place (printedFrom (reply₀ .store) file left₀ at₀) r exit)
 
 abbrev μ-loop : tie.MeasureT-loop
-μ-loop file out₀ place store₀ at₀ left₀ end₀ out store at left end = left
+μ-loop file out₀ place reply₀ at₀ left₀ end₀ out reply at left end = left
 
 module _ (c : tie.After-reply-to Inv-loop μ-loop) where
   fits : SFits w64 (c .reply-to .result .answer .b)
   fits = search needs
 
   low : c .reply-to .result .answer .code < codesBelow
-  low = code-low (c .before .before .before .before .before .before .loop .store) (c .before .before .call .given .0 .0) _ (c .reply-to .ensures)
+  low = code-low (c .before .before .before .before .before .before .loop .reply .store) (c .before .before .call .given .0 .0) _ (c .reply-to .ensures)
 
   short : length (lineOf (c .reply-to .result .answer)) ≤ answerMost
   short = answer-most _ _ _ low (search needs) fits
@@ -68,7 +68,7 @@ loop-less c = search needs
 
 loop-again : tie.Need-loop-again Inv-loop μ-loop
 loop-again c =
-    let p = c .before .before .before in
+    let p = c .before .before in
     let d : tie.After-reply-to Inv-loop μ-loop = p .before .before .before .before in
     let k = d .before .before in
     let t = k .before .before .before in

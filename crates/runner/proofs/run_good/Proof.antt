@@ -5,12 +5,12 @@ use borrow.Author.Needs.{needs}
 use mir.Syntax.{w64}
 use mir.Val.{SFits}
 use mir.ValLaws.{toZ-ofZ}
-use Rattle.runfile.specs.Text.{answerMost, codesBelow}
-use Rattle.runfile.specs.File.{objectsIn, callsIn}
-use Rattle.runfile.specs.Puts.{Puts}
-use Rattle.runfile.proofs.Printing.{put-then, answer-most}
-use Rattle.runner.specs.Output.{openedWith, lineOf}
-use Rattle.runner.proofs.Lines.{opened-low, opened-only, opened-run}
+use Rattle.text.specs.Text.{answerMost, codesBelow}
+use Rattle.text.specs.Puts.{Puts}
+use Rattle.text.proofs.Printing.{put-then, answer-most}
+use Rattle.written.specs.File.{objectsIn, callsIn}
+use Rattle.output.specs.Output.{openedWith, lineOf}
+use Rattle.output.proofs.Lines.{opened-low, opened-only, opened-run}
 use Rattle.runner.proofs.run_good.Statement.{statement}
 use Rattle.runner.proofs.run_good.Tie as tie
 

@@ -1,8 +1,8 @@
 use mathlib.Core.Path.{sym, _∙_}
 use native.Mathlib.Omega.{arith}
 use borrow.Author.Needs.{needs}
-use Rattle.runfile.proofs.Reading.{good-limits}
-use Rattle.runner.proofs.Lines.{output-bad, output-good}
+use Rattle.written.proofs.Reading.{good-limits}
+use Rattle.output.proofs.Lines.{output-bad, output-good}
 use Rattle.runner.proofs.run_into.Statement.{statement}
 use Rattle.runner.proofs.run_into.Tie as tie
 

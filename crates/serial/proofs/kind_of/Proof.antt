@@ -1,4 +1,4 @@
-use Rattle.serial.specs.Kinds.{kindOf}
+use Rattle.kinds.specs.Kinds.{kindOf}
 use borrow.Author.Tests.{ne-eqb}
 use Rattle.serial.proofs.kind_of.Statement.{statement}
 use Rattle.serial.proofs.kind_of.Tie as tie

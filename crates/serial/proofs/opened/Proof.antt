@@ -1,7 +1,7 @@
 use mathlib.Core.Path.{ap, _∙_}
 use mir.Facts.{toZ-ofZ}
-use Rattle.serial.specs.Account as A
-use Rattle.serial.specs.Register as R
+use Rattle.kinds.specs.Account as A
+use Rattle.kinds.specs.Register as R
 use borrow.Author.Needs.{needs}
 use Rattle.serial.proofs.opened.Statement.{statement}
 use Rattle.serial.proofs.opened.Tie as tie

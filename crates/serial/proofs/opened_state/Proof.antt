@@ -2,9 +2,9 @@ use mathlib.Core.Path.{_≡_, sym, ap, _∙_}
 use lib.IntN.{ℤ}
 use borrow.Author.Needs.{needs}
 use mir.Facts.{toZ-ofZ}
-use Rattle.serial.specs.declared.Kind.{Kind}
-use Rattle.serial.specs.declared.Opening.{Opening}
-use Rattle.serial.specs.Kinds.{openedOf, startOf}
+use Rattle.kinds.specs.declared.Kind.{Kind}
+use Rattle.kinds.specs.declared.Opening.{Opening}
+use Rattle.kinds.specs.Kinds.{openedOf, startOf}
 use Rattle.serial.proofs.opened_state.Statement.{statement}
 use Rattle.serial.proofs.opened_state.Tie as tie
 

@@ -1,4 +1,4 @@
-use Rattle.serial.specs.Kinds.{entry}
+use Rattle.kinds.specs.Kinds.{entry}
 use borrow.Author.Needs.{needs}
 use Rattle.serial.proofs.rule_of.Statement.{statement}
 use Rattle.serial.proofs.rule_of.Tie as tie

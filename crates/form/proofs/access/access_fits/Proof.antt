@@ -2,9 +2,9 @@ use mathlib.Core.Bool.{Bool}
 use mathlib.Core.Path.{ap₂, _≡_, sym, ap, _∙_}
 use lib.IntN.{ℤ}
 use mir.Facts.{toZ-ofZ}
-use Rattle.serial.specs.declared.Kind.{Kind}
-use Rattle.serial.specs.declared.Decoded.{Decoded}
-use Rattle.serial.specs.Kinds.{kindOf, decodeOf, recallOf}
+use Rattle.kinds.specs.declared.Kind.{Kind}
+use Rattle.kinds.specs.declared.Decoded.{Decoded}
+use Rattle.kinds.specs.Kinds.{kindOf, decodeOf, recallOf}
 use Rattle.form.specs.Form.{isZero, given, fits}
 use Prim.Native.Nat.{ℕ}
 use borrow.Author.Needs.{needs}

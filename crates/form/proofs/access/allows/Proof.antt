@@ -1,5 +1,5 @@
 use mir.Facts.{toZ-ofZ}
-use Rattle.serial.specs.Kinds.{recallOf}
+use Rattle.kinds.specs.Kinds.{recallOf}
 use Rattle.form.specs.Form.{given}
 use mathlib.Core.Path.{sym, ap, _∙_}
 use borrow.Author.Needs.{needs}

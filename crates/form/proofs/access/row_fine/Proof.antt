@@ -5,7 +5,7 @@ use mir.Syntax.{w64}
 use mir.Val.{SFits}
 use mir.Facts.{toZ-ofZ}
 use borrow.Author.Tests.{not-true, not-false, lt-ltb, le-ltb}
-use Rattle.serial.specs.Kinds.{kindOf, decodeOf}
+use Rattle.kinds.specs.Kinds.{kindOf, decodeOf}
 use Rattle.columns.specs.Column.{at, atZ}
 use Rattle.form.specs.Form.{blank, fits}
 use borrow.Author.Needs.{needs}

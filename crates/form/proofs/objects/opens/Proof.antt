@@ -1,6 +1,6 @@
 use mathlib.Core.Path.{_≡_, ap₂, sym, ap, _∙_}
 use mir.Facts.{toZ-ofZ}
-use Rattle.serial.specs.Kinds.{kindOf, openedOf, opens}
+use Rattle.kinds.specs.Kinds.{kindOf, openedOf, opens}
 use borrow.Author.Needs.{needs}
 use Rattle.form.proofs.objects.opens.Statement.{statement}
 use Rattle.form.proofs.objects.opens.Tie as tie

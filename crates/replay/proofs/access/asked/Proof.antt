@@ -1,7 +1,7 @@
 use mathlib.Core.Path.{ap₂, _∙_}
 use mir.Syntax.{w64}
 use mir.Facts.{toZ-ofZ}
-use Rattle.serial.specs.Kinds.{decodeOf}
+use Rattle.kinds.specs.Kinds.{decodeOf}
 use borrow.Author.Needs.{needs}
 use Rattle.replay.proofs.access.asked.Statement.{statement}
 use Rattle.replay.proofs.access.asked.Tie as tie

@@ -4,11 +4,11 @@ use lib.IntN.{ℤ}
 use borrow.Author.Needs.{needs}
 use borrow.Author.Tests.{eq-eqb, ne-eqb}
 use mir.Facts.{toZ-ofZ}
-use Rattle.serial.specs.declared.Operation.{Operation}
-use Rattle.serial.specs.declared.Decoded.{Decoded}
-use Rattle.serial.specs.declared.Decoded.the-variants.{Fit}
-use Rattle.serial.specs.declared.outcome.Recalled.{Recalled}
-use Rattle.serial.specs.Kinds.{recallOf}
+use Rattle.kinds.specs.declared.Operation.{Operation}
+use Rattle.kinds.specs.declared.Decoded.{Decoded}
+use Rattle.kinds.specs.declared.Decoded.the-variants.{Fit}
+use Rattle.kinds.specs.declared.outcome.Recalled.{Recalled}
+use Rattle.kinds.specs.Kinds.{recallOf}
 use Rattle.replay.specs.Access.{answeredAs, recordedOf}
 use Rattle.replay.proofs.access.record_of.Statement.{statement}
 use Rattle.replay.proofs.access.record_of.Tie as tie

@@ -1,7 +1,7 @@
 use mathlib.Core.Path.{sym, ap, _∙_}
 use borrow.Author.Needs.{needs}
-use Rattle.serial.specs.declared.Stepped.{Stepped}
-use Rattle.serial.proofs.Claims.{no-sum-wraps}
+use Rattle.kinds.specs.declared.Stepped.{Stepped}
+use Rattle.kinds.proofs.Claims.{no-sum-wraps}
 use Rattle.columns.specs.Column.{at, atZ}
 use Rattle.replay.specs.View.{afterOne}
 use Rattle.replay.proofs.chain.applied.Statement.{statement}

@@ -7,8 +7,8 @@ use borrow.Author.Needs.{needs}
 use borrow.Fn.Kinds.{In}
 use borrow.Fn.PlainCycle.{Measures, is, falls, and}
 use Rattle.below.proofs.Climb.{lower-to}
-use Rattle.serial.specs.declared.Kind.{Kind}
-use Rattle.serial.specs.declared.State.{State}
+use Rattle.kinds.specs.declared.Kind.{Kind}
+use Rattle.kinds.specs.declared.State.{State}
 use Rattle.columns.specs.Column.{at, rowsMost}
 use Rattle.replay.specs.Access.{askedOf}
 use Rattle.replay.specs.Chain.{Chain, chainOf, chainAt, Linked, Left}

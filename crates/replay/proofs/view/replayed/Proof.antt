@@ -5,7 +5,7 @@ use lib.ListN.{length}
 use borrow.Author.Needs.{needs}
 use mir.Facts.{toZ-ofZ}
 use Rattle.below.proofs.Climb.{lower-to}
-use Rattle.serial.specs.Kinds.{openedOf, startOf}
+use Rattle.kinds.specs.Kinds.{openedOf, startOf}
 use Rattle.columns.specs.Column.{placesMost}
 use Rattle.columns.specs.Work.{work}
 use Rattle.columns.proofs.Work.{length-work}

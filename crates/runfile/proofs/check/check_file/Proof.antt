@@ -1,6 +1,6 @@
 use borrow.Author.Needs.{needs}
 use borrow.Author.Tests.{lt-ltb, le-ltb}
-use Rattle.runfile.specs.Check.{checkOf}
+use Rattle.written.specs.Check.{checkOf}
 use Rattle.runfile.proofs.check.check_file.Statement.{statement}
 use Rattle.runfile.proofs.check.check_file.Tie as tie
 

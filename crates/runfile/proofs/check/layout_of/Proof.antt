@@ -1,8 +1,8 @@
 use mathlib.Core.Path.{_∙_, sym}
 use native.Mathlib.Omega.{arith}
 use borrow.Author.Needs.{needs}
-use Rattle.runfile.proofs.written.Section.{section-after}
-use Rattle.runfile.proofs.written.File.{holds-objects}
+use Rattle.written.proofs.Sections.{section-after}
+use Rattle.written.proofs.File.{holds-objects}
 use Rattle.runfile.proofs.check.layout_of.Statement.{statement}
 use Rattle.runfile.proofs.check.layout_of.Tie as tie
 

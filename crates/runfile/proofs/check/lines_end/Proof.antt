@@ -1,10 +1,10 @@
 use Prim.Native.Nat.{_+_, _≤_}
 use mathlib.Core.Path.{_≡_, refl, sym, _∙_}
 use borrow.Author.Needs.{needs}
-use Rattle.runfile.specs.Written.{callsMost, bytesMost}
-use Rattle.runfile.specs.Items.{endsFrom}
-use Rattle.runfile.specs.Check.{nextIn}
-use Rattle.runfile.proofs.Items.{ends-done, ends-wrong, ends-more}
+use Rattle.written.specs.Written.{callsMost, bytesMost}
+use Rattle.written.specs.Items.{endsFrom}
+use Rattle.written.specs.Check.{nextIn}
+use Rattle.written.proofs.Items.{ends-done, ends-wrong, ends-more}
 use Rattle.runfile.proofs.check.lines_end.Statement.{statement}
 use Rattle.runfile.proofs.check.lines_end.Tie as tie
 

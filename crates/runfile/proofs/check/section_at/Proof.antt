@@ -2,12 +2,12 @@ use Prim.Native.Nat.{ℕ, _≤_}
 use mathlib.Core.Path.{_≡_, _∙_, sym}
 use native.Mathlib.Omega.{arith}
 use borrow.Author.Needs.{needs}
-use Rattle.runfile.specs.Written.{callsMost}
-use Rattle.runfile.specs.Check.{mostIn, countAt}
-use Rattle.runfile.specs.declared.number.Number.the-variants.{Value}
-use Rattle.runfile.specs.declared.check.Section.{Section}
-use Rattle.runfile.specs.declared.check.Section.the-variants.{Objects, Calls}
-use Rattle.runfile.proofs.written.Line.{count-most}
+use Rattle.text.specs.declared.number.Number.the-variants.{Value}
+use Rattle.written.specs.Written.{callsMost}
+use Rattle.written.specs.Check.{mostIn, countAt}
+use Rattle.written.specs.declared.Section.{Section}
+use Rattle.written.specs.declared.Section.the-variants.{Objects, Calls}
+use Rattle.written.proofs.Line.{count-most}
 use Rattle.runfile.proofs.check.section_at.Statement.{statement}
 use Rattle.runfile.proofs.check.section_at.Tie as tie
 

@@ -2,7 +2,7 @@ use mathlib.Core.Path.{_∙_, sym}
 use native.Mathlib.Omega.{arith}
 use borrow.Author.Needs.{needs}
 use borrow.Author.Tests.{eq-eqb, ne-eqb}
-use Rattle.runfile.proofs.Letters.{letter-in}
+use Rattle.written.proofs.Letters.{letter-in}
 use Rattle.runfile.proofs.line.call_at.Statement.{statement}
 use Rattle.runfile.proofs.line.call_at.Tie as tie
 

@@ -1,8 +1,8 @@
 use mathlib.Core.Path.{sym}
 use borrow.Author.Needs.{needs}
 use borrow.Author.Tests.{eq-eqb, ne-eqb}
-use Rattle.runfile.specs.Line.{letterAt}
-use Rattle.runfile.proofs.Letters.{letter-past}
+use Rattle.written.specs.Line.{letterAt}
+use Rattle.written.proofs.Letters.{letter-past}
 use Rattle.runfile.proofs.line.letter_at.Statement.{statement}
 use Rattle.runfile.proofs.line.letter_at.Tie as tie
 

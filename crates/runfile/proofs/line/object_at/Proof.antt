@@ -5,8 +5,8 @@ use mir.ValLaws.{toZ-ofZ}
 use mir.Syntax.{w64}
 use borrow.Author.Needs.{needs}
 use borrow.Author.Tests.{not-true, not-false}
-use Rattle.runfile.specs.Line.{isKind}
-use Rattle.runfile.proofs.Letters.{letter-in, kind-not-zero}
+use Rattle.written.specs.Line.{isKind}
+use Rattle.written.proofs.Letters.{letter-in, kind-not-zero}
 use Rattle.runfile.proofs.line.object_at.Statement.{statement}
 use Rattle.runfile.proofs.line.object_at.Tie as tie
 

@@ -1,41 +1,52 @@
 use Prim.Native.Nat.{ℕ}
-use mathlib.Core.Path.{refl, sym, ap, _∙_}
+use mathlib.Core.Path.{_≡_, refl, sym, ap, _∙_}
 use native.Mathlib.Omega.{arith}
 use lib.IntN.{pos}
 use borrow.Author.Needs.{needs}
 use Rattle.columns.specs.Tree.{hasAborted}
 use Rattle.store.specs.declared.Store.{Store}
-use Rattle.store.specs.Refusal.{answerOf, replyOf}
-use Rattle.store.specs.Exact.{NoneHolds}
+use Rattle.refusal.specs.Refusal.{answerOf}
+use Rattle.refusal.specs.Order.{firstCode}
+use Rattle.store.specs.Refusal.{replyOf}
+use Rattle.refusal.specs.Exact.{NoneHolds}
 use Rattle.store.specs.Finish.{finishedAs, abortRefusals}
 use Rattle.store.proofs.Facts.{lower-rows, listed-sound}
-use Rattle.store.proofs.Refusals.{none-first}
-use Rattle.store.proofs.Finishing.{Finishable, finishable, abort-refused, abort-done}
+use Rattle.refusal.proofs.Order.{none-first}
+use Rattle.store.proofs.Finishing.{Finishable, finishable, finish-asks, finish-decides, abort-refused, abort-done}
 use Rattle.store.proofs.Store.abort.Statement.{statement}
 use Rattle.store.proofs.Store.abort.Tie as tie
 
 -- the store and the transaction, and what the code 0 says of them
+abbrev start : tie.After-finish-code → tie.Start
+start c = c .before .before .before .before .before
+
 abbrev S : tie.Else1 → Store
-S e = e .before .before .args .t1
+S e = start (e .before) .args .t1
 
 abbrev T : tie.Else1 → ℕ
-T e = e .before .before .args .t
+T e = start (e .before) .args .t
+
+code : (c : tie.After-finish-code) → c .finish-code .result ≡ firstCode (abortRefusals (start c .args .t1) (start c .args .t))
+code c = finish-decides (start c .args .t1) (start c .args .t) _ _ (c .before .before .before .before .in-form .ensures) (c .finish-code .ensures)
 
 none : (e : tie.Else1) → NoneHolds (abortRefusals (S e) (T e))
-none e = none-first (abortRefusals (S e) (T e)) refl (sym (e .before .finish-code .ensures) ∙ e .if1 .left)
+none e = none-first (abortRefusals (S e) (T e)) refl (sym (code (e .before)) ∙ e .if1 .left)
 
 accepted : (e : tie.Else1) → Finishable (S e) (T e)
 accepted e = finishable (S e) (T e) (none e)
 
-finish-code-requires : tie.Need-finish-code-requires
-finish-code-requires c κs = search needs
+in-form-requires : tie.Need-in-form-requires
+in-form-requires c κs = search needs
 
-refusal-requires : tie.Need-refusal-requires
-refusal-requires c κs = search needs
+finish-code-requires : tie.Need-finish-code-requires
+finish-code-requires c κs = let d = c .before .before .before in finish-asks (d .before .args .t1) _ (d .in-form .ensures)
+
+refused-requires : tie.Need-refused-requires
+refused-requires c κs = search needs
 
 returns : tie.Need-returns
-returns c = let g = c .before .before .before .args in
-    ap (replyOf (g .t1)) (c .refusal .ensures) ∙ abort-refused (g .t1) (g .t) _ (c .before .before .finish-code .ensures) (c .before .if1 .taken)
+returns c = let g = start (c .before .before) .args in
+    ap (replyOf (g .t1)) (c .refused .ensures) ∙ abort-refused (g .t1) (g .t) _ (code (c .before .before)) (c .before .if1 .taken)
 
 add-rows : tie.Need-add-rows
 add-rows c = omega (arith, accepted c .form .tree .few)
@@ -50,14 +61,15 @@ finished-requires c κs = accepted (c .before .before .before .before .before) .
 
 returns-2 : tie.Need-returns-2
 returns-2 c = let e = c .before .before .before .before .before .before in
-    ap (λ z. replyOf z (answerOf 0 (T e) (pos 0))) (c .finished .ensures ∙ ap (finishedAs (S e) (T e) hasAborted) (c .before .dropped .ensures)) ∙ abort-done (S e) (T e) (none e)
+    c .finished .ensures ∙ ap (λ w. replyOf (finishedAs (S e) (T e) hasAborted w) (answerOf 0 (T e) (pos 0))) (c .before .dropped .ensures) ∙ abort-done (S e) (T e) (none e)
 
 pub abort-spec : {M : Type 1} → statement M
 abort-spec =
     tie.close
     (tie.spec
+    in-form-requires
     finish-code-requires
-    refusal-requires
+    refused-requires
     returns
     add-rows
     dropped-requires

@@ -3,7 +3,7 @@ use mathlib.Core.Path.{_≡_, sym, _∙_}
 use native.Mathlib.Omega.{arith}
 use borrow.Author.Needs.{needs}
 use Rattle.columns.specs.Column.{at}
-use Rattle.serial.specs.declared.Decoded.the-variants.{Fit}
+use Rattle.kinds.specs.declared.Decoded.the-variants.{Fit}
 use Rattle.store.specs.declared.Store.{Store}
 use Rattle.store.specs.Lists.{askedAt, stateFor}
 use Rattle.store.proofs.Facts.{listed-sound, lower-rows}

@@ -1,12 +1,12 @@
-use Prim.Native.Nat.{_-_}
 use mathlib.Core.Path.{_≡_, refl, sym, ap₂, _∙_}
 use mathlib.Core.Bool.{true}
 use native.Mathlib.Omega.{arith}
 use borrow.Author.Tests.{not-true, not-false}
 use borrow.Author.Needs.{needs}
 use Rattle.store.specs.Refusal.{replyOf}
-use Rattle.store.specs.Open.{openable}
-use Rattle.store.proofs.Opens.{few, even, open-refused, open-done}
+use Rattle.refusal.specs.Open.{openable}
+use Rattle.refusal.proofs.Opens.{few, even}
+use Rattle.store.proofs.Opens.{open-refused, open-done}
 use Rattle.store.proofs.Store.open.Statement.{statement}
 use Rattle.store.proofs.Store.open.Tie as tie
 
@@ -16,14 +16,14 @@ openable-requires c κs = search needs
 with-objects-requires : tie.Need-with-objects-requires
 with-objects-requires c κs = search needs
 
-refusal-requires : tie.Need-refusal-requires
-refusal-requires c κs = search needs
+refused-requires : tie.Need-refused-requires
+refused-requires c κs = search needs
 
 returns : tie.Need-returns
 returns c =
     let a = c .before .before .before in
     let g = a .before .before .args in
-    ap₂ replyOf (c .before .with-objects .ensures) (c .refusal .ensures)
+    ap₂ replyOf (c .before .with-objects .ensures) (c .refused .ensures)
     ∙ open-refused (g .kinds .now) (g .openings .now) _ (a .openable .ensures) (not-true _ (c .before .before .if1 .taken))
 
 fits : (e : tie.Else1) → let g = e .before .before .before .args in openable (g .kinds .now) (g .openings .now) ≡ true
@@ -54,7 +54,7 @@ open-spec =
     (tie.spec
     openable-requires
     with-objects-requires
-    refusal-requires
+    refused-requires
     returns
     kind-column-requires
     opening-column-requires

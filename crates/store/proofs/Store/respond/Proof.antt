@@ -1,42 +1,55 @@
 use Prim.Native.Nat.{ℕ, _<_}
-use mathlib.Core.Path.{_≡_, refl, sym, ap, ap₂, _∙_}
+use mathlib.Core.Path.{_≡_, refl, sym, ap, _∙_}
 use native.Mathlib.Omega.{arith}
-use borrow.Author.Needs.{needs}
-use Rattle.columns.specs.Column.{rowsMost}
+use mir.Facts.{toZ-ofZ}
+use borrow.Author.Needs.{needs, sfits-of}
+use Rattle.columns.specs.Column.{rowsMost, placesMost}
 use Rattle.replay.specs.declared.access.Recorded.the-variants.{As}
 use Rattle.store.specs.declared.Store.{Store}
+use Rattle.refusal.specs.Order.{firstCode}
 use Rattle.store.specs.Refusal.{replyOf}
-use Rattle.store.specs.Exact.{NoneHolds}
-use Rattle.store.specs.Respond.{askingOf, askRefusals}
+use Rattle.refusal.specs.Exact.{NoneHolds}
+use Rattle.store.specs.Respond.{askingOf, responded, askRefusals}
 use Rattle.store.proofs.Facts.{form-facts, listed-sound}
-use Rattle.store.proofs.Refusals.{none-first}
+use Rattle.refusal.proofs.Order.{none-first}
 use Rattle.store.proofs.Asking.{ready}
-use Rattle.store.proofs.Responding.{Askable, askable, has-place, small-a, respond-refused, something-asked, respond-waits, respond-done}
+use Rattle.store.proofs.Finishing.{finish-asks}
+use Rattle.store.proofs.Responding.{Askable, askable, ask-decides, has-place, small-a, respond-refused, something-asked, respond-waits, respond-done}
 use Rattle.store.proofs.Store.respond.Statement.{statement}
 use Rattle.store.proofs.Store.respond.Tie as tie
 
 -- the store and the access, and what the code 0 says of them
+abbrev opening : tie.After-ask-code → tie.Start
+opening c = c .before .before .before .before .before .before .before
+
 abbrev S : tie.Else1 → Store
-S e = e .before .before .args .t1
+S e = opening (e .before) .args .t1
 
 abbrev T : tie.Else1 → ℕ
-T e = e .before .before .args .t
+T e = opening (e .before) .args .t
+
+code : (c : tie.After-ask-code) → c .ask-code .result ≡ firstCode (askRefusals (opening c .args .t1) (opening c .args .t))
+code c = let g = opening c .args in
+    ask-decides (g .t1) (g .t) _ _ (c .before .before .before .before .before .before .in-form .ensures) (c .ask-code .ensures)
 
 none : (e : tie.Else1) → NoneHolds (askRefusals (S e) (T e))
-none e = none-first (askRefusals (S e) (T e)) refl (sym (e .before .ask-code .ensures) ∙ e .if1 .left)
+none e = none-first (askRefusals (S e) (T e)) refl (sym (code (e .before)) ∙ e .if1 .left)
 
 access : (e : tie.Else1) → Askable (S e) (T e)
 access e = askable (S e) (T e) (none e)
 
-ask-code-requires : tie.Need-ask-code-requires
-ask-code-requires c κs = search needs
+in-form-requires : tie.Need-in-form-requires
+in-form-requires c κs = search needs
 
-refusal-requires : tie.Need-refusal-requires
-refusal-requires c κs = search needs
+ask-code-requires : tie.Need-ask-code-requires
+ask-code-requires c κs = let d = c .before .before .before .before .before in finish-asks (d .before .args .t1) _ (d .in-form .ensures)
+
+refused-requires : tie.Need-refused-requires
+refused-requires c κs = search needs
 
 returns : tie.Need-returns
-returns c = let g = c .before .before .before .args in
-    ap (replyOf (g .t1)) (c .refusal .ensures) ∙ respond-refused (g .t1) (g .t) _ (c .before .before .ask-code .ensures) (c .before .if1 .taken)
+returns c = let g = opening (c .before .before) .args in
+    ap (replyOf (g .t1)) (c .refused .ensures) ∙ respond-refused (g .t1) (g .t) _ (code (c .before .before)) (c .before .if1 .taken)
 
 asking-requires : tie.Need-asking-requires
 asking-requires c κs = (access c .formed, access c .known, access c .asks)
@@ -47,8 +60,8 @@ enum-known-asking c = search needs
 enum-told : tie.Need-enum-told
 enum-told c = search needs
 
-refusal-requires-2 : tie.Need-refusal-requires-2
-refusal-requires-2 c κs = search needs
+refused-requires-2 : tie.Need-refused-requires-2
+refused-requires-2 c κs = search needs
 
 returns-2 : tie.Need-returns-2
 returns-2 c = let a = c .before .before .before in
@@ -89,33 +102,91 @@ returns-3 c = let t = c .before .before .before .before in
 numbers-of-requires : tie.Need-numbers-of-requires
 numbers-of-requires c κs = search needs
 
-responded-requires : tie.Need-responded-requires
-responded-requires c κs = let w = c .before .before in
-    let e = start w in
-    let a = access e in
-    (ready (S e) (T e) (a .formed) (a .known) (a .asks) .row, has-place (S e) (T e) a, rw (c .numbers-of .ensures) (small-a (w .before .before .asking2 .given .0 .0 .outcome)))
+-- the access has a row and a place, and its answer a byte
+row-of : (e : tie.Else1) → T e < rowsMost
+row-of e = let a = access e in ready (S e) (T e) (a .formed) (a .known) (a .asks) .row
+
+place-of : (e : tie.Else1) → S e .listed < placesMost
+place-of e = has-place (S e) (T e) (access e)
+
+answer-of : (c : tie.After-numbers-of) → c .numbers-of .result .a < 255
+answer-of c = rw (c .numbers-of .ensures) (small-a (c .before .before .before .before .asking2 .given .0 .0 .outcome))
+
+abbrev begun : tie.After-numbers-of → tie.Else1
+begun c = start (c .before .before)
+
+cast-self : tie.Need-cast-self
+cast-self c = omega (arith, answer-of (c .before))
+
+add-self : tie.Need-add-self
+add-self c = omega (arith, answer-of (c .before))
+
+element-write-self : tie.Need-element-write-self
+element-write-self c = row-of (begun (c .before))
+
+mul-b : tie.Need-mul-b
+mul-b c = omega (arith, row-of (begun (c .before .before)))
+
+element-set-from-b : tie.Need-element-set-from-b
+element-set-from-b c = row-of (begun (c .before .before))
+
+cast-self-2 : tie.Need-cast-self-2
+cast-self-2 c = omega (arith, row-of (begun (c .before .before)))
+
+mul-self : tie.Need-mul-self
+mul-self c = omega (arith, place-of (begun (c .before .before)))
+
+element-write-self-2 : tie.Need-element-write-self-2
+element-write-self-2 c = place-of (begun (c .before .before))
+
+add-self-2 : tie.Need-add-self-2
+add-self-2 c = omega (arith, place-of (begun (c .before .before)))
+
+cast-self-3 : tie.Need-cast-self-3
+cast-self-3 c = omega (arith, row-of (begun (c .before .before)))
+
+mul-self-2 : tie.Need-mul-self-2
+mul-self-2 c = omega (arith, row-of (begun (c .before .before)))
+
+element-write-self-3 : tie.Need-element-write-self-3
+element-write-self-3 c = row-of (begun (c .before .before))
+
+add-self-3 : tie.Need-add-self-3
+add-self-3 c = omega (arith, place-of (begun (c .before .before)))
+
+cast-self-4 : tie.Need-cast-self-4
+cast-self-4 c = omega (arith, place-of (begun (c .before .before)))
+
+mul-self-3 : tie.Need-mul-self-3
+mul-self-3 c = omega (arith, row-of (begun (c .before .before)))
+
+element-write-self-4 : tie.Need-element-write-self-4
+element-write-self-4 c = row-of (begun (c .before .before))
 
 result-answer-requires : tie.Need-result-answer-requires
 result-answer-requires c κs = search needs
 
 returns-4 : tie.Need-returns-4
-returns-4 c = let l = c .before .before .before in
+returns-4 c = let n = c .before .before .before in
+    let l = n .before in
     let w = l .before in
     let e = start w in
-    ap₂ replyOf (c .before .responded .ensures) (c .result-answer .ensures)
-    ∙ respond-done (S e) (T e) (none e) _ (asks w) _ (w .wait-for .ensures) (l .if2 .left) _ _ _ (c .before .before .numbers-of .ensures) refl refl
+    rw (toZ-ofZ (sfits-of (c .before .struct-told .given .1 .0 .1)))
+    (ap (replyOf (responded (S e) (T e) (n .numbers-of .result))) (c .result-answer .ensures)
+    ∙ respond-done (S e) (T e) (none e) _ (asks w) _ (w .wait-for .ensures) (l .if2 .left) _ _ _ (n .numbers-of .ensures) refl refl)
 
 pub respond-spec : {M : Type 1} → statement M
 respond-spec =
     tie.close
     (tie.spec
+    in-form-requires
     ask-code-requires
-    refusal-requires
+    refused-requires
     returns
     asking-requires
     enum-known-asking
     enum-told
-    refusal-requires-2
+    refused-requires-2
     returns-2
     wait-for-requires
     add-if2
@@ -123,6 +194,21 @@ respond-spec =
     wait-answer-requires
     returns-3
     numbers-of-requires
-    responded-requires
+    cast-self
+    add-self
+    element-write-self
+    mul-b
+    element-set-from-b
+    cast-self-2
+    mul-self
+    element-write-self-2
+    add-self-2
+    cast-self-3
+    mul-self-2
+    element-write-self-3
+    add-self-3
+    cast-self-4
+    mul-self-3
+    element-write-self-4
     result-answer-requires
     returns-4)

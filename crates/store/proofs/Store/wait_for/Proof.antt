@@ -5,7 +5,7 @@ use borrow.Author.Needs.{needs}
 use Rattle.below.specs.Below.{firstBelow}
 use Rattle.columns.specs.Column.{at}
 use Rattle.replay.specs.Access.{recordIn}
-use Rattle.replay.specs.Wait.{blocks}
+use Rattle.wait.specs.Wait.{blocks}
 use Rattle.store.specs.declared.Store.{Store}
 use Rattle.store.specs.Lists.{rowsOf}
 use Rattle.store.proofs.Facts.{lower-rows, listed-sound}

@@ -1,0 +1,113 @@
+// The account: which operations it takes, what each does, its recorded outcomes and its classes of answer.
+ghost use mathlib.Core.Path.{_≡_};
+ghost use Rattle.kinds.specs.Account.{decodeOf, stepOf, Room, recallOf, classOf};
+use kinds::Account;
+use kinds::AccountOperation;
+use kinds::Class;
+use kinds::Decoded;
+use kinds::Numbers;
+use kinds::Operation;
+use kinds::Outcome;
+use kinds::Recalled;
+use kinds::State;
+use kinds::Stepped;
+use kinds::range::Ranged;
+use kinds::range::within;
+use kinds::with_value;
+use kinds::without_value;
+
+pub fn decode(operation: u32, argument: i64) -> Decoded
+    ensures { λ r. ⌜ r ≡ decodeOf operation argument ⌝ }
+{
+    match operation {
+        Account::BALANCE => match within(argument, Account::NO_ARGUMENT, Account::NO_ARGUMENT) {
+            Ranged::In(_) => Decoded::Fit(Operation::Account(AccountOperation::Balance)),
+            Ranged::Out => Decoded::Unfit,
+        },
+        Account::DEPOSIT => match within(argument, Account::AMOUNT_LEAST, Account::AMOUNT_MOST) {
+            Ranged::In(n) => Decoded::Fit(Operation::Account(AccountOperation::Deposit(n))),
+            Ranged::Out => Decoded::Unfit,
+        },
+        Account::WITHDRAW => match within(argument, Account::AMOUNT_LEAST, Account::AMOUNT_MOST) {
+            Ranged::In(n) => Decoded::Fit(Operation::Account(AccountOperation::Withdraw(n))),
+            Ranged::Out => Decoded::Unfit,
+        },
+        _ => Decoded::Unfit,
+    }
+}
+
+pub fn step(account: Account, operation: AccountOperation) -> Stepped
+    requires { ⌜ Room account operation ⌝ }
+    ensures { λ r. ⌜ r ≡ stepOf account operation ⌝ }
+{
+    let balance = account.balance;
+    match operation {
+        AccountOperation::Balance => Stepped {
+            state: State::Account(account),
+            outcome: Outcome::Value(balance),
+        },
+        AccountOperation::Deposit(n) => Stepped {
+            state: State::Account(Account {
+                balance: balance + n,
+            }),
+            outcome: Outcome::Ok,
+        },
+        AccountOperation::Withdraw(n) => {
+            if n <= balance {
+                Stepped {
+                    state: State::Account(Account {
+                        balance: balance - n,
+                    }),
+                    outcome: Outcome::Ok,
+                }
+            } else {
+                Stepped {
+                    state: State::Account(account),
+                    outcome: Outcome::Fail,
+                }
+            }
+        }
+    }
+}
+
+pub fn recall(operation: AccountOperation, a: u32, b: i64) -> Recalled
+    ensures { λ r. ⌜ r ≡ recallOf operation a b ⌝ }
+{
+    match operation {
+        AccountOperation::Balance => match a {
+            Numbers::VALUE => with_value(b, Account::ANSWER_LEAST, Account::ANSWER_MOST),
+            _ => Recalled::Unshaped,
+        },
+        AccountOperation::Deposit(_) => match a {
+            Numbers::OK => without_value(Outcome::Ok, b),
+            _ => Recalled::Unshaped,
+        },
+        AccountOperation::Withdraw(_) => match a {
+            Numbers::OK => without_value(Outcome::Ok, b),
+            Numbers::FAIL => without_value(Outcome::Fail, b),
+            _ => Recalled::Unshaped,
+        },
+    }
+}
+
+pub fn class_of(operation: AccountOperation, outcome: Outcome) -> Class
+    ensures { λ r. ⌜ r ≡ classOf operation outcome ⌝ }
+{
+    match operation {
+        AccountOperation::Balance => match outcome {
+            Outcome::Value(_) => Class::Row(Account::BALANCE_ROW),
+            Outcome::Ok => Class::None,
+            Outcome::Fail => Class::None,
+        },
+        AccountOperation::Deposit(_) => match outcome {
+            Outcome::Ok => Class::Row(Account::DEPOSIT_ROW),
+            Outcome::Fail => Class::None,
+            Outcome::Value(_) => Class::None,
+        },
+        AccountOperation::Withdraw(_) => match outcome {
+            Outcome::Ok => Class::Row(Account::DRAWN_ROW),
+            Outcome::Fail => Class::Row(Account::SHORT_ROW),
+            Outcome::Value(_) => Class::None,
+        },
+    }
+}

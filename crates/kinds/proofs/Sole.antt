@@ -1,0 +1,28 @@
+-- Two results that meet a function's contract are equal, for every public function: `Learnt` is what its `ensures` says.
+use Rattle.promise.specs.Sole.{Sole}
+use Rattle.promise.proofs.Sole.{sole}
+use Rattle.kinds.proofs as of
+
+within : Sole 0 of.range.within.Kinds.ps of.range.within.Kinds.r of.range.within.Reads.Learnt
+within κs a x y s t = sole
+
+account-opened : Sole 0 of.account.Account.opened.Kinds.ps of.account.Account.opened.Kinds.r of.account.Account.opened.Reads.Learnt
+account-opened κs a x y s t = sole
+
+register-opened : Sole 0 of.register.Register.opened.Kinds.ps of.register.Register.opened.Kinds.r of.register.Register.opened.Reads.Learnt
+register-opened κs a x y s t = sole
+
+account-rule-of : Sole 0 of.account.Account.rule_of.Kinds.ps of.account.Account.rule_of.Kinds.r of.account.Account.rule_of.Reads.Learnt
+account-rule-of κs a x y s t = sole
+
+register-rule-of : Sole 0 of.register.Register.rule_of.Kinds.ps of.register.Register.rule_of.Kinds.r of.register.Register.rule_of.Reads.Learnt
+register-rule-of κs a x y s t = sole
+
+numbers-of : Sole 0 of.outcome.numbers_of.Kinds.ps of.outcome.numbers_of.Kinds.r of.outcome.numbers_of.Reads.Learnt
+numbers-of κs a x y s t = sole
+
+with-value : Sole 0 of.outcome.with_value.Kinds.ps of.outcome.with_value.Kinds.r of.outcome.with_value.Reads.Learnt
+with-value κs a x y s t = sole
+
+without-value : Sole 0 of.outcome.without_value.Kinds.ps of.outcome.without_value.Kinds.r of.outcome.without_value.Reads.Learnt
+without-value κs a x y s t = sole

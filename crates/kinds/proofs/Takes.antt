@@ -1,0 +1,112 @@
+-- What `decode` lets through: the operations of the kind with their arguments in range. So no sum wraps, and every answer is one that the form allows.
+use mathlib.Core.Path.{_≡_, refl}
+use mathlib.Core.Bool.{Bool, true, false, cond}
+use mathlib.Core.Logic.{⊎-elim}
+use Prim.Native.Nat.{ℕ, suc, _+_, _-_, _≤_}
+use mathlib.Core.List.{List, [], _∷_}
+use lib.ListN.{length}
+use native.Mathlib.Nat.{add-zero}
+use native.Mathlib.Omega.{arith}
+use lib.IntN.{ℤ}
+use lib.Dec.{eqb}
+use borrow.Author.Tests.{le-leb, lt-leb}
+use Rattle.below.proofs.Tests.{le-or}
+use Rattle.theory.specs.Serial.{Op, run}
+use Rattle.kinds.specs.Kinds.{openedOf, decodeOf, stepOf, Room, Bounded, recallOf}
+use Rattle.kinds.specs.Outcome.{numbersOf}
+use Rattle.kinds.specs.Account as A
+use Rattle.kinds.specs.Register as R
+use Rattle.kinds.specs.Object.{StateOf, account, register, objectOf, AllFit, Grown, upto, kept}
+use Rattle.kinds.specs.declared.Kind.{Kind}
+use Rattle.kinds.specs.declared.Kind.the-variants.{Account, Register, Unknown}
+use Rattle.kinds.specs.declared.account.AccountOperation.the-variants.{Balance, Deposit, Withdraw}
+use Rattle.kinds.specs.declared.register.RegisterOperation.the-variants.{Read, Write}
+use Rattle.kinds.specs.declared.State.{State}
+use Rattle.kinds.specs.declared.State.the-variants as S
+use Rattle.kinds.specs.declared.Operation.{Operation}
+use Rattle.kinds.specs.declared.Operation.the-variants as O
+use Rattle.kinds.specs.declared.Opening.{Opening}
+use Rattle.kinds.specs.declared.Opening.the-variants.{At, Refused}
+use Rattle.kinds.specs.declared.Decoded.{Decoded}
+use Rattle.kinds.specs.declared.Decoded.the-variants.{Fit, Unfit}
+use Rattle.kinds.specs.declared.outcome.Recalled.the-variants.{Given}
+use Rattle.kinds.proofs.Within.{ranged}
+
+pub data Takes : Kind → Operation → Type 0 where
+  balance : Takes Account (O.Account Balance)
+  deposit : {n : ℕ} → 1 ≤ n → n ≤ A.amountMost → Takes Account (O.Account (Deposit n))
+  withdraw : {n : ℕ} → 1 ≤ n → n ≤ A.amountMost → Takes Account (O.Account (Withdraw n))
+  read : Takes Register (O.Register Read)
+  write : {n : ℕ} → n ≤ R.valueMost → Takes Register (O.Register (Write n))
+
+abbrev TakesIf : Kind → Decoded → Type 0
+TakesIf kind (Fit o) = Takes kind o
+TakesIf kind Unfit = Unit {0}
+
+either : (kind : Kind) (b : Bool) (d e : Decoded) → TakesIf kind d → TakesIf kind e → TakesIf kind (cond b d e)
+either kind true d e p q = p
+either kind false d e p q = q
+
+takes-if : (kind : Kind) (k : ℕ) (x : ℤ) → TakesIf kind (decodeOf kind k x)
+takes-if Account k x =
+    either Account (eqb k 1) _ _ (ranged (TakesIf Account) _ Unfit x 0 0 (λ n l h. balance) tt)
+    (either Account (eqb k 2) _ _ (ranged (TakesIf Account) _ Unfit x 1 A.amountMost (λ n l h. deposit l h) tt)
+    (either Account (eqb k 3) _ _ (ranged (TakesIf Account) _ Unfit x 1 A.amountMost (λ n l h. withdraw l h) tt) tt))
+takes-if Register k x =
+    either Register (eqb k 4) _ _ (ranged (TakesIf Register) _ Unfit x 0 0 (λ n l h. read) tt)
+    (either Register (eqb k 5) _ _ (ranged (TakesIf Register) _ Unfit x 0 R.valueMost (λ n l h. write h) tt) tt)
+takes-if Unknown k x = tt
+
+pub decoded-takes : (kind : Kind) (k : ℕ) (x : ℤ) (o : Operation) → decodeOf kind k x ≡ Fit o → Takes kind o
+decoded-takes kind k x o e = rw e at (takes-if kind k x)
+
+-- a deposit that is taken fits
+pub takes-room : (kind : Kind) (o : Operation) (s : State) → Takes kind o → Bounded s → Room s o
+takes-room kind o (S.Account a) balance h = tt
+takes-room kind o (S.Account a) (deposit l m) h = omega arith
+takes-room kind o (S.Account a) (withdraw l m) h = tt
+takes-room kind o (S.Account a) read h = tt
+takes-room kind o (S.Account a) (write m) h = tt
+takes-room kind o (S.Register v) t h = tt
+
+-- the answer's numbers are read back as that answer
+pub takes-recalled : (kind : Kind) (o : Operation) (s : State) → StateOf kind s → Takes kind o → Bounded s
+    → recallOf o (numbersOf (stepOf s o .outcome) .a) (numbersOf (stepOf s o .outcome) .b) ≡ Given (stepOf s o .outcome)
+takes-recalled kind o s (account {n}) balance h = rw (le-leb 0 n (omega arith), le-leb n A.balanceMost h)
+takes-recalled kind o s account (deposit l m) h = refl
+takes-recalled kind o s (account {n}) (withdraw {n = m} l k) h = ⊎-elim (λ e. rw (le-leb m n e)) (λ e. rw (lt-leb m n e)) (le-or m n)
+takes-recalled kind o s (register {n} b) read h = rw (le-leb 0 n (omega arith), le-leb n R.valueMost h)
+takes-recalled kind o s (register b) (write m) h = refl
+
+-- a step keeps the kind's states, and grows by one deposit at most
+pub takes-grown : (kind : Kind) (o : Operation) (s : State) (k : ℕ) → Grown kind k s → Takes kind o → Grown kind (suc k) (stepOf s o .state)
+takes-grown kind o s i (upto n k h) balance = upto n (suc k) (omega arith)
+takes-grown kind o s i (upto n k h) (deposit {n = m} l r) = upto (n + m) (suc k) (omega arith)
+takes-grown kind o s i (upto n k h) (withdraw {n = m} l r) =
+    ⊎-elim (λ e. rw (le-leb m n e) (upto (n - m) (suc k) (omega arith))) (λ e. rw (lt-leb m n e) (upto n (suc k) (omega arith))) (le-or m n)
+takes-grown kind o s i (kept n k h) read = kept n (suc k) h
+takes-grown kind o s i (kept n k h) (write {n = m} r) = kept m (suc k) r
+
+pub grown-has : (kind : Kind) (k : ℕ) (s : State) → Grown kind k s → k ≤ 1024 → StateOf kind s × Bounded s
+grown-has kind i s (upto n k h) l = (account, omega arith)
+grown-has kind i s (kept n k h) l = (register h, h)
+
+-- an opening has grown by nothing
+abbrev GrownIf : Kind → Opening → Type 0
+GrownIf kind (At s) = Grown kind 0 s
+GrownIf kind Refused = Unit {0}
+
+opens-grown : (kind : Kind) (x : ℤ) → GrownIf kind (openedOf kind x)
+opens-grown Account x = ranged (GrownIf Account) _ Refused x 0 A.openingMost (λ n l h. upto n 0 (omega arith)) tt
+opens-grown Register x = ranged (GrownIf Register) _ Refused x 0 R.valueMost (λ n l h. kept n 0 h) tt
+opens-grown Unknown x = tt
+
+pub opened-grown : (kind : Kind) (x : ℤ) (s : State) → openedOf kind x ≡ At s → Grown kind 0 s
+opened-grown kind x s e = rw e at (opens-grown kind x)
+
+pub run-grown : (kind : Kind) (l : List (Op (objectOf kind))) (s : State) (k : ℕ) → AllFit kind l → Grown kind k s → Grown kind (k + length l) (run (objectOf kind) s l)
+run-grown kind [] s k fit g = rw add-zero g
+run-grown kind (p ∷ l) s k fit g =
+    let e : k + suc (length l) ≡ suc k + length l = omega arith in
+    let t = decoded-takes kind (fit .0 .0) (fit .0 .1) (p .ask) (fit .0 .2) in
+    rw e (run-grown kind l (stepOf s (p .ask) .state) (suc k) (fit .1) (takes-grown kind (p .ask) s k g t))

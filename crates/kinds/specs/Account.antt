@@ -1,0 +1,91 @@
+-- A, account. Source: document 01, "Objects and numbers" and "The conflict table".
+use Prim.Native.Nat.{ℕ, _+_, _-_, _<_, _^_}
+use mathlib.Core.Bool.{cond}
+use mathlib.Core.List.{List, [], _∷_}
+use lib.IntN.{ℤ}
+use lib.Dec.{leb, eqb}
+use Rattle.kinds.specs.declared.account.Account.{Account}
+use Rattle.kinds.specs.declared.account.AccountOperation.{AccountOperation}
+use Rattle.kinds.specs.declared.account.AccountOperation.the-variants.{Balance, Deposit, Withdraw}
+use Rattle.kinds.specs.declared.State.{State}
+use Rattle.kinds.specs.declared.State.the-variants as S
+use Rattle.kinds.specs.declared.Operation.the-variants as O
+use Rattle.kinds.specs.declared.outcome.Outcome.{Outcome}
+use Rattle.kinds.specs.declared.outcome.Outcome.the-variants.{Ok, Fail, Value}
+use Rattle.kinds.specs.declared.Stepped.{Stepped}
+use Rattle.kinds.specs.declared.outcome.Recalled.{Recalled}
+use Rattle.kinds.specs.declared.outcome.Recalled.the-variants.{Unshaped}
+use Rattle.kinds.specs.declared.Opening.{Opening}
+use Rattle.kinds.specs.declared.Opening.the-variants.{At, Refused}
+use Rattle.kinds.specs.declared.Decoded.{Decoded}
+use Rattle.kinds.specs.declared.Decoded.the-variants.{Fit, Unfit}
+use Rattle.kinds.specs.declared.Class.{Class}
+use Rattle.kinds.specs.declared.Class.the-variants.{Row, None}
+use Rattle.kinds.specs.declared.Rule.{Rule}
+use Rattle.kinds.specs.declared.Rule.the-variants.{Pass, Conflict}
+use Rattle.kinds.specs.Range.{inRange}
+use Rattle.kinds.specs.Outcome.{ok, fail, value, withValue, withoutValue}
+
+-- the account with this balance
+abbrev pub accountOf : ℕ → State
+accountOf n = S.Account (record { balance = n })
+
+-- openings 0 to 1,000,000,000, amounts 1 to 1,000,000
+abbrev pub openingMost : ℕ
+openingMost = 1_000_000_000
+
+abbrev pub amountMost : ℕ
+amountMost = 1_000_000
+
+-- no balance can exceed the largest opening and 1,024 deposits of the largest size
+abbrev pub balanceMost : ℕ
+balanceMost = 2_024_000_000
+
+abbrev pub openedOf : ℤ → Opening
+openedOf opening = inRange opening 0 openingMost (λ n. At (accountOf n)) Refused
+
+-- 1 balance (argument 0), 2 deposit and 3 withdraw (argument 1 to 1,000,000)
+abbrev pub decodeOf : ℕ → ℤ → Decoded
+decodeOf operation argument =
+    cond (eqb operation 1) (inRange argument 0 0 (λ n. Fit (O.Account Balance)) Unfit)
+    (cond (eqb operation 2) (inRange argument 1 amountMost (λ n. Fit (O.Account (Deposit n))) Unfit)
+    (cond (eqb operation 3) (inRange argument 1 amountMost (λ n. Fit (O.Account (Withdraw n))) Unfit) Unfit))
+
+-- a withdrawal succeeds if the balance is at least the amount; otherwise it answers FAIL and changes nothing
+abbrev pub stepOf : Account → AccountOperation → Stepped
+stepOf account Balance = record { state = S.Account account; outcome = Value (account .balance) }
+stepOf account (Deposit n) = record { state = accountOf (account .balance + n); outcome = Ok }
+stepOf account (Withdraw n) =
+    cond (leb n (account .balance)) (record { state = accountOf (account .balance - n); outcome = Ok })
+    (record { state = S.Account account; outcome = Fail })
+
+-- a deposit leaves a balance that 32 bits hold
+abbrev pub Room : Account → AccountOperation → Type 0
+Room account Balance = Unit {0}
+Room account (Deposit n) = account .balance + n < 2 ^ 32
+Room account (Withdraw n) = Unit {0}
+
+-- the outcomes that an operation allows, by a and b
+abbrev pub recallOf : AccountOperation → ℕ → ℤ → Recalled
+recallOf Balance a b = cond (eqb a value) (withValue b 0 balanceMost) Unshaped
+recallOf (Deposit n) a b = cond (eqb a ok) (withoutValue Ok b) Unshaped
+recallOf (Withdraw n) a b = cond (eqb a ok) (withoutValue Ok b) (cond (eqb a fail) (withoutValue Fail b) Unshaped)
+
+-- the row of each class of answer: balance, deposit, withdraw OK, withdraw FAIL
+abbrev pub classOf : AccountOperation → Outcome → Class
+classOf Balance (Value v) = Row 0
+classOf Balance Ok = None
+classOf Balance Fail = None
+classOf (Deposit n) Ok = Row 1
+classOf (Deposit n) Fail = None
+classOf (Deposit n) (Value v) = None
+classOf (Withdraw n) Ok = Row 2
+classOf (Withdraw n) Fail = Row 3
+classOf (Withdraw n) (Value v) = None
+
+abbrev pub table : List (List Rule)
+table =
+    (Pass ∷ Conflict ∷ Conflict ∷ Pass ∷ []) ∷
+    (Conflict ∷ Pass ∷ Pass ∷ Conflict ∷ []) ∷
+    (Conflict ∷ Pass ∷ Conflict ∷ Pass ∷ []) ∷
+    (Pass ∷ Conflict ∷ Pass ∷ Pass ∷ []) ∷ []

@@ -1,0 +1,74 @@
+// What an operation answers, and document 01's numbers for it, there and back.
+ghost use mathlib.Core.Path.{_≡_};
+ghost use Rattle.kinds.specs.Outcome.{numbersOf, withValue, withoutValue};
+use crate::range::Ranged;
+use crate::range::within;
+
+pub enum Outcome {
+    Ok,
+    Fail,
+    Value(u32),
+}
+
+// Document 01's a and b of an outcome.
+pub struct Numbers {
+    pub a: u32,
+    pub b: i64,
+}
+
+impl Numbers {
+    // The values of a.
+    pub const FAIL: u32 = 0;
+
+    pub const OK: u32 = 1;
+
+    pub const VALUE: u32 = 2;
+
+    // The b of an outcome that has no value.
+    pub const NO_VALUE: u32 = 0;
+}
+
+// The outcome that a and b stand for, where the operation allows it.
+pub enum Recalled {
+    Given(Outcome),
+    Unshaped,
+}
+
+pub fn numbers_of(outcome: Outcome) -> Numbers
+    ensures { λ r. ⌜ r ≡ numbersOf outcome ⌝ }
+{
+    match outcome {
+        Outcome::Ok => Numbers {
+            a: Numbers::OK,
+            b: Numbers::NO_VALUE as i64,
+        },
+        Outcome::Fail => Numbers {
+            a: Numbers::FAIL,
+            b: Numbers::NO_VALUE as i64,
+        },
+        Outcome::Value(v) => Numbers {
+            a: Numbers::VALUE,
+            b: v as i64,
+        },
+    }
+}
+
+// A value from low to high, as an outcome.
+pub fn with_value(b: i64, low: u32, high: u32) -> Recalled
+    ensures { λ r. ⌜ r ≡ withValue b low high ⌝ }
+{
+    match within(b, low, high) {
+        Ranged::In(v) => Recalled::Given(Outcome::Value(v)),
+        Ranged::Out => Recalled::Unshaped,
+    }
+}
+
+// An outcome that has no value: b is 0.
+pub fn without_value(outcome: Outcome, b: i64) -> Recalled
+    ensures { λ r. ⌜ r ≡ withoutValue outcome b ⌝ }
+{
+    match within(b, Numbers::NO_VALUE, Numbers::NO_VALUE) {
+        Ranged::In(_) => Recalled::Given(outcome),
+        Ranged::Out => Recalled::Unshaped,
+    }
+}

@@ -1,0 +1,4 @@
+pub mod Codes
+pub mod Lines
+pub mod Opening
+pub mod Printed

@@ -1,0 +1,5 @@
+pub mod Refusal
+pub mod Exact
+pub mod Create
+pub mod Open
+pub mod Order

@@ -1,9 +1,0 @@
-pub mod Standing
-pub mod Lines
-pub mod Number
-pub mod Fields
-pub mod Line
-pub mod Call
-pub mod Read
-pub mod Section
-pub mod File

@@ -1,9 +1,0 @@
-pub mod Text
-pub mod Sign
-pub mod Puts
-pub mod Written
-pub mod Number
-pub mod Line
-pub mod Items
-pub mod Check
-pub mod File

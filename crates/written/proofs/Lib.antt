@@ -1,0 +1,12 @@
+pub mod Letters
+pub mod Items
+pub mod Standing
+pub mod Lines
+pub mod Number
+pub mod Fields
+pub mod Line
+pub mod Calls
+pub mod Read
+pub mod Sections
+pub mod File
+pub mod Reading
