@@ -1,0 +1,72 @@
+"""The loads: run files of 10, 100 and 1,000 transactions, within document 01's 4,096 calls and 65,536 bytes."""
+SIZES = (10, 100, 1000)
+ACCOUNT, REGISTER = "A 1000", "R 7"
+BALANCE, DEPOSIT_5, DEPOSIT_7, WITHDRAW_3, READ = "1 0", "2 5", "2 7", "3 3", "4 0"
+
+
+class Calls:
+    def __init__(self):
+        self.lines, self.count = [], 0
+
+    def create(self, *words):
+        """N and the parent; or U, parent, object and what is asked. Returns the new number."""
+        self.count += 1
+        self.lines.append(" ".join(map(str, words)))
+        return self.count
+
+    def each(self, letter, numbers):
+        self.lines += [f"{letter} {t}" for t in numbers]
+
+    def step(self, parent, thing, asked):
+        t = self.create("U", parent, thing, asked)
+        self.lines += [f"G {t}", f"C {t}"]
+
+
+def job(calls, size):
+    for _ in range(size // 4):
+        parent = calls.create("N", 0)
+        for asked in (BALANCE, DEPOSIT_5, WITHDRAW_3):
+            calls.step(parent, parent % 8, asked)
+        calls.each("C", [parent])
+    return [ACCOUNT] * 8
+
+
+def all_open(calls, size):
+    jobs, turns = [], [[], [], [], []]
+    for j in range(size // 5):
+        jobs.append(calls.create("N", 0))
+        asked = ((j % 8, DEPOSIT_5), ((j + 3) % 8, DEPOSIT_7), (8 + j % 8, READ), (8 + (j + 1) % 8, READ))
+        for turn, step in zip(turns, asked):
+            turn.append(calls.create("U", jobs[-1], *step))
+    for turn in turns:
+        calls.each("G", turn)
+    for j in range(min(20, len(jobs))):
+        calls.each("G", [calls.create("U", 0, j % 8, BALANCE)])  # must wait for the deposits
+    for turn in (*turns, jobs):
+        calls.each("C", turn)
+    return [ACCOUNT] * 8 + [REGISTER] * 8
+
+
+def chained(calls, depth, steps):
+    chain = [calls.create("N", above) for above in range(depth)]
+    for _ in range(steps):
+        calls.step(chain[-1], 0, DEPOSIT_5)
+    calls.each("C", reversed(chain))
+    return [ACCOUNT]
+
+
+# What a load is, and the function that adds its calls and returns the objects that they are about.
+LOADS = {
+    "job": ("jobs one after the other, each of three steps", job),
+    "open": ("all open at once, with waits", all_open),
+    "deep": ("one chain, 5 deposits at its end", lambda calls, size: chained(calls, size - 5, 5)),
+    "late": ("a chain of half, deposits of half at its end", lambda calls, size: chained(calls, size // 2, size // 2)),
+}
+
+
+def load(kind, size):
+    """A run file, and how many calls it has."""
+    calls = Calls()
+    objects = LOADS[kind][1](calls, size)
+    text = "\n".join([str(len(objects)), *objects, str(len(calls.lines)), *calls.lines, ""])
+    return text, len(calls.lines)
