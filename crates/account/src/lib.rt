@@ -44,7 +44,7 @@ pub fn step(account: Account, operation: AccountOperation) -> Stepped
     match operation {
         AccountOperation::Balance => Stepped {
             state: State::Account(account),
-            outcome: Outcome::Value(balance),
+            outcome: Outcome::Value(balance as i64),
         },
         AccountOperation::Deposit(n) => Stepped {
             state: State::Account(Account {
@@ -95,18 +95,18 @@ pub fn class_of(operation: AccountOperation, outcome: Outcome) -> Class
 {
     match operation {
         AccountOperation::Balance => match outcome {
-            Outcome::Value(_) => Class::Row(Account::BALANCE_ROW),
+            Outcome::Value(v) => Class::Row(Account::BALANCE_ROW, v),
             Outcome::Ok => Class::None,
             Outcome::Fail => Class::None,
         },
-        AccountOperation::Deposit(_) => match outcome {
-            Outcome::Ok => Class::Row(Account::DEPOSIT_ROW),
+        AccountOperation::Deposit(n) => match outcome {
+            Outcome::Ok => Class::Row(Account::DEPOSIT_ROW, n as i64),
             Outcome::Fail => Class::None,
             Outcome::Value(_) => Class::None,
         },
-        AccountOperation::Withdraw(_) => match outcome {
-            Outcome::Ok => Class::Row(Account::DRAWN_ROW),
-            Outcome::Fail => Class::Row(Account::SHORT_ROW),
+        AccountOperation::Withdraw(n) => match outcome {
+            Outcome::Ok => Class::Row(Account::DRAWN_ROW, n as i64),
+            Outcome::Fail => Class::Row(Account::SHORT_ROW, n as i64),
             Outcome::Value(_) => Class::None,
         },
     }

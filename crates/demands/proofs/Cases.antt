@@ -5,7 +5,8 @@ use mathlib.Core.Bool.{true}
 use mathlib.Core.List.{List, [], _∷_, map, tail, head-eq-of-cons-eq, tail-eq-of-cons-eq}
 use Rattle.below.specs.Below.{anyBelow, allBelow, firstBelow, setBelow}
 use Rattle.below.specs.Climb.{climb, climbIn, upAny}
-use Rattle.kinds.specs.Kinds.{kindOf, entry}
+use Rattle.kinds.specs.Kinds.{kindOf}
+use Rattle.kinds.specs.Table.{entry}
 use Rattle.columns.specs.Work.{work, only, laid, numbered}
 use Rattle.replay.specs.View.{afterAll}
 use Rattle.store.specs.declared.Store.{Store}

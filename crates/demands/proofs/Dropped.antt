@@ -21,7 +21,8 @@ use Rattle.theory.proofs.Tree.{access-other, above-trans, one-step}
 use Rattle.kinds.specs.declared.Operation.the-variants as O
 use Rattle.kinds.specs.declared.account.AccountOperation.the-variants.{Withdraw}
 use Rattle.kinds.specs.declared.outcome.Outcome.the-variants.{Ok}
-use Rattle.kinds.specs.Kinds.{kindOf, entry}
+use Rattle.kinds.specs.Kinds.{kindOf}
+use Rattle.kinds.specs.Table.{entry}
 use Rattle.kinds.specs.Object.{objectOf}
 use Rattle.kinds.proofs.Outcomes.{ok-not-fail}
 use Rattle.columns.specs.Work.{work, only, laid, numbered}

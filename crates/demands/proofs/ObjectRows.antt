@@ -14,7 +14,7 @@ use Rattle.below.proofs.Column.{filled-at}
 use Rattle.theory.specs.History.{Role, other}
 use Rattle.theory.proofs.Rows.{Got, nothing, got, Rows, Unwritten}
 use Rattle.kinds.specs.declared.Kind.{Kind}
-use Rattle.kinds.specs.declared.Kind.the-variants.{Account, Register, Unknown}
+use Rattle.kinds.specs.declared.Kind.the-variants.{Account, Register, Counter, Unknown}
 use Rattle.kinds.specs.declared.Answered.{Answered}
 use Rattle.kinds.specs.declared.Decoded.{Decoded}
 use Rattle.kinds.specs.declared.Decoded.the-variants.{Fit, Unfit}
@@ -40,6 +40,7 @@ use Rattle.demands.specs.Locking.{lockingOf}
 unfit-zero : (kind : Kind) (argument : ℤ) → decodeOf kind 0 argument ≡ Unfit
 unfit-zero Account argument = refl
 unfit-zero Register argument = refl
+unfit-zero Counter argument = refl
 unfit-zero Unknown argument = refl
 
 unanswered-nothing : (d : Decoded) (outcome : ℕ) (value : ℤ) → outcome ≡ 0 → recordedOf d outcome value ≡ Nothing

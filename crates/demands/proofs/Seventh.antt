@@ -14,7 +14,8 @@ use Rattle.theory.proofs.Tree.{root-alive}
 use Rattle.kinds.specs.declared.Operation.the-variants as O
 use Rattle.kinds.specs.declared.register.RegisterOperation.the-variants.{Write}
 use Rattle.kinds.specs.declared.outcome.Outcome.the-variants.{Ok}
-use Rattle.kinds.specs.Kinds.{kindOf, entry}
+use Rattle.kinds.specs.Kinds.{kindOf}
+use Rattle.kinds.specs.Table.{entry}
 use Rattle.kinds.specs.Object.{objectOf}
 use Rattle.columns.specs.Column.{at}
 use Rattle.columns.specs.Work.{work, only, laid, numbered}

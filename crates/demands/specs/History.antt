@@ -3,7 +3,7 @@
 use Prim.Native.Nat.{ℕ}
 use mathlib.Core.Bool.{Bool, true, false, cond, _&&_, _||_}
 use mathlib.Core.List.{List, [], _∷_, _++_}
-use lib.IntN.{ℤ, pos, negsuc}
+use lib.IntN.{ℤ}
 use lib.Dec.{eqb}
 use Rattle.theory.specs.Serial.{Serial}
 use Rattle.theory.specs.History.{Role, other, access, Event, created, responded, committed, aborted, History}
@@ -23,8 +23,7 @@ use Rattle.store.specs.Calls.{Call, create, respond, commit, abort, replyTo}
 
 -- the outcome that a and b stand for: a is 1 for OK, 0 for FAIL, 2 for a value; b is the value. No other numbers are handed out (`handed-out`).
 abbrev pub outcomeFor : ℕ → ℤ → Outcome
-outcomeFor a (pos b) = cond (eqb a ok) Ok (cond (eqb a fail) Fail (Value b))
-outcomeFor a (negsuc b) = Fail
+outcomeFor a b = cond (eqb a ok) Ok (cond (eqb a fail) Fail (Value b))
 
 -- what is asked of an object of the kind; a plain transaction asks nothing that fits
 abbrev pub asking : (kind : Kind) → Decoded → Role (objectOf kind)

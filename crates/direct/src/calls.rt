@@ -9,6 +9,8 @@ pub(crate) const ACCOUNT: u32 = 0;
 
 pub(crate) const REGISTER: u32 = 1;
 
+pub(crate) const COUNTER: u32 = 2;
+
 pub(crate) const BALANCE: u32 = 1;
 
 pub(crate) const DEPOSIT: u32 = 2;
@@ -19,10 +21,19 @@ pub(crate) const READ: u32 = 4;
 
 pub(crate) const WRITE: u32 = 5;
 
-// The store that each starts with: `A 10` is object 0, `R 7` object 1.
+pub(crate) const ADJUST: u32 = 6;
+
+pub(crate) const COUNT: u32 = 7;
+
+// The last numbers of 64 bits, far beyond what a file can write.
+pub(crate) const LOWEST: i64 = -9_223_372_036_854_775_808;
+
+pub(crate) const HIGHEST: i64 = 9_223_372_036_854_775_807;
+
+// The store that each starts with: `A 10` is object 0, `R 7` object 1, `K -7` object 2.
 pub(crate) fn begin(heading: &[u8]) -> Store {
     print(heading);
-    shown(Store::open(b"AR", &[10, 7]))
+    shown(Store::open(b"ARK", &[10, 7, -7]))
 }
 
 pub(crate) fn plain(s: Store, parent: u32) -> Store {

@@ -1,7 +1,12 @@
-// Arguments below every range, and stores out of form.
+// Arguments that no file can write, and stores out of form.
 use crate::calls::ACCOUNT;
+use crate::calls::ADJUST;
 use crate::calls::BALANCE;
+use crate::calls::COUNT;
+use crate::calls::COUNTER;
 use crate::calls::DEPOSIT;
+use crate::calls::HIGHEST;
+use crate::calls::LOWEST;
 use crate::calls::READ;
 use crate::calls::REGISTER;
 use crate::calls::WITHDRAW;
@@ -14,13 +19,16 @@ use crate::calls::plain;
 use crate::calls::respond;
 use store::Store;
 
-pub(crate) fn negative_arguments() {
-    let mut s = begin(b"negative arguments\n");
-    s = access(s, 0, ACCOUNT, BALANCE, -1);
-    s = access(s, 0, ACCOUNT, DEPOSIT, -1);
-    s = access(s, 0, ACCOUNT, WITHDRAW, -1);
-    s = access(s, 0, REGISTER, READ, -1);
-    access(s, 0, REGISTER, WRITE, -1);
+pub(crate) fn far_arguments() {
+    let mut s = begin(b"far arguments\n");
+    s = access(s, 0, ACCOUNT, BALANCE, LOWEST);
+    s = access(s, 0, ACCOUNT, DEPOSIT, HIGHEST);
+    s = access(s, 0, ACCOUNT, WITHDRAW, LOWEST);
+    s = access(s, 0, REGISTER, READ, HIGHEST);
+    s = access(s, 0, REGISTER, WRITE, HIGHEST);
+    s = access(s, 0, COUNTER, ADJUST, LOWEST);
+    s = access(s, 0, COUNTER, ADJUST, HIGHEST);
+    access(s, 0, COUNTER, COUNT, LOWEST);
 }
 
 // Every call once: 15.

@@ -8,6 +8,6 @@ mod show;
 fn main() {
     openings::openings();
     openings::refused_opening();
-    edges::negative_arguments();
+    edges::far_arguments();
     edges::out_of_form();
 }

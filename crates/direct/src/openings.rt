@@ -1,10 +1,12 @@
-// Openings below each range, of an unknown kind, with too many objects, and with not as many values as kinds: 14. And the store that a refused opening
+// Openings that no file can write, of an unknown kind, with too many objects, and with not as many values as kinds: 14. And the store that a refused opening
 // gives.
 ghost use mathlib.Core.Path.{_≡_};
 ghost use Prim.Native.Nat.{_≤_};
 ghost use lib.ListN.{length};
 use crate::calls::ACCOUNT;
 use crate::calls::BALANCE;
+use crate::calls::HIGHEST;
+use crate::calls::LOWEST;
 use crate::calls::abort;
 use crate::calls::access;
 use crate::calls::commit;
@@ -50,8 +52,10 @@ fn open_alike(letter: u8, opening: i64, kinds: usize, openings: usize) {
 
 pub(crate) fn openings() {
     print(b"openings\n");
-    open_alike(b'A', -1, 1, 1);
-    open_alike(b'R', -1, 1, 1);
+    open_alike(b'A', HIGHEST, 1, 1);
+    open_alike(b'R', LOWEST, 1, 1);
+    open_alike(b'K', LOWEST, 1, 1);
+    open_alike(b'K', HIGHEST, 1, 1);
     open_alike(b'B', 10, 1, 1);
     open_alike(b'A', 10, 65, 65);
     open_alike(b'A', 10, 1, 2);

@@ -1,6 +1,9 @@
 pub mod Within
 pub mod Outcomes
-pub mod Table
+pub mod Keys
+pub mod Entries
+pub mod Sizes
+pub mod Passing
 pub mod Takes
 pub mod Fits
 pub mod Claims

@@ -7,7 +7,7 @@ use mathlib.Core.List.{List, [], _∷_}
 use lib.ListN.{length}
 use native.Mathlib.Nat.{add-zero}
 use native.Mathlib.Omega.{arith}
-use lib.IntN.{ℤ}
+use lib.IntN.{ℤ, natAbs, _+ℤ_}
 use lib.Dec.{eqb}
 use borrow.Author.Tests.{le-leb, lt-leb}
 use Rattle.below.proofs.Tests.{le-or}
@@ -16,11 +16,13 @@ use Rattle.kinds.specs.Kinds.{openedOf, decodeOf, stepOf, Room, Bounded,
 use Rattle.kinds.specs.Outcome.{numbersOf}
 use Rattle.kinds.specs.Account as A
 use Rattle.kinds.specs.Register as R
-use Rattle.kinds.specs.Object.{StateOf, account, register, objectOf, AllFit, Grown, upto, kept}
+use Rattle.kinds.specs.Counter as K
+use Rattle.kinds.specs.Object.{StateOf, account, register, counter, objectOf, AllFit, Grown, upto, kept, aside}
 use Rattle.kinds.specs.declared.Kind.{Kind}
-use Rattle.kinds.specs.declared.Kind.the-variants.{Account, Register, Unknown}
+use Rattle.kinds.specs.declared.Kind.the-variants.{Account, Register, Counter, Unknown}
 use Rattle.kinds.specs.declared.account.AccountOperation.the-variants.{Balance, Deposit, Withdraw}
 use Rattle.kinds.specs.declared.register.RegisterOperation.the-variants.{Read, Write}
+use Rattle.kinds.specs.declared.counter.CounterOperation.the-variants.{Adjust, Count}
 use Rattle.kinds.specs.declared.State.{State}
 use Rattle.kinds.specs.declared.State.the-variants as S
 use Rattle.kinds.specs.declared.Operation.{Operation}
@@ -31,6 +33,7 @@ use Rattle.kinds.specs.declared.Decoded.{Decoded}
 use Rattle.kinds.specs.declared.Decoded.the-variants.{Fit, Unfit}
 use Rattle.kinds.specs.declared.outcome.Recalled.the-variants.{Given}
 use Rattle.kinds.proofs.Within.{ranged}
+use Rattle.kinds.proofs.Sizes.{sum-size, above-least, below-most, either-sided}
 
 pub data Takes : Kind → Operation → Type 0 where
   balance : Takes Account (O.Account Balance)
@@ -38,6 +41,8 @@ pub data Takes : Kind → Operation → Type 0 where
   withdraw : {n : ℕ} → 1 ≤ n → n ≤ A.amountMost → Takes Account (O.Account (Withdraw n))
   read : Takes Register (O.Register Read)
   write : {n : ℕ} → n ≤ R.valueMost → Takes Register (O.Register (Write n))
+  adjust : {z : ℤ} → natAbs z ≤ K.adjustmentMost → Takes Counter (O.Counter (Adjust z))
+  count : Takes Counter (O.Counter Count)
 
 abbrev TakesIf : Kind → Decoded → Type 0
 TakesIf kind (Fit o) = Takes kind o
@@ -49,25 +54,37 @@ either kind false d e p q = q
 
 takes-if : (kind : Kind) (k : ℕ) (x : ℤ) → TakesIf kind (decodeOf kind k x)
 takes-if Account k x =
-    either Account (eqb k 1) _ _ (ranged (TakesIf Account) _ Unfit x 0 0 (λ n l h. balance) tt)
-    (either Account (eqb k 2) _ _ (ranged (TakesIf Account) _ Unfit x 1 A.amountMost (λ n l h. deposit l h) tt)
-    (either Account (eqb k 3) _ _ (ranged (TakesIf Account) _ Unfit x 1 A.amountMost (λ n l h. withdraw l h) tt) tt))
+    either Account (eqb k 1) _ _ (ranged (TakesIf Account) (λ n. Fit (O.Account Balance)) Unfit x 0 0 (λ n l h. balance) tt)
+    (either Account (eqb k 2) _ _ (ranged (TakesIf Account) (λ n. Fit (O.Account (Deposit n))) Unfit x 1 A.amountMost (λ n l h. deposit l h) tt)
+    (either Account (eqb k 3) _ _ (ranged (TakesIf Account) (λ n. Fit (O.Account (Withdraw n))) Unfit x 1 A.amountMost (λ n l h. withdraw l h) tt) tt))
 takes-if Register k x =
-    either Register (eqb k 4) _ _ (ranged (TakesIf Register) _ Unfit x 0 0 (λ n l h. read) tt)
-    (either Register (eqb k 5) _ _ (ranged (TakesIf Register) _ Unfit x 0 R.valueMost (λ n l h. write h) tt) tt)
+    either Register (eqb k 4) _ _ (ranged (TakesIf Register) (λ n. Fit (O.Register Read)) Unfit x 0 0 (λ n l h. read) tt)
+    (either Register (eqb k 5) _ _ (ranged (TakesIf Register) (λ n. Fit (O.Register (Write n))) Unfit x 0 R.valueMost (λ n l h. write h) tt) tt)
+takes-if Counter k x =
+    either Counter (eqb k 6) _ _ (either-sided (TakesIf Counter) (λ z. Fit (O.Counter (Adjust z))) Unfit x K.adjustmentMost (λ h. adjust {z = x} h) tt)
+    (either Counter (eqb k 7) _ _ (ranged (TakesIf Counter) (λ n. Fit (O.Counter Count)) Unfit x 0 0 (λ n l h. count) tt) tt)
 takes-if Unknown k x = tt
 
 pub decoded-takes : (kind : Kind) (k : ℕ) (x : ℤ) (o : Operation) → decodeOf kind k x ≡ Fit o → Takes kind o
 decoded-takes kind k x o e = rw e at (takes-if kind k x)
 
--- a deposit that is taken fits
+-- a deposit or an adjustment that is taken fits
 pub takes-room : (kind : Kind) (o : Operation) (s : State) → Takes kind o → Bounded s → Room s o
 takes-room kind o (S.Account a) balance h = tt
 takes-room kind o (S.Account a) (deposit l m) h = omega arith
 takes-room kind o (S.Account a) (withdraw l m) h = tt
 takes-room kind o (S.Account a) read h = tt
 takes-room kind o (S.Account a) (write m) h = tt
+takes-room kind o (S.Account a) (adjust m) h = tt
+takes-room kind o (S.Account a) count h = tt
 takes-room kind o (S.Register v) t h = tt
+takes-room kind o (S.Counter c) balance h = tt
+takes-room kind o (S.Counter c) (deposit l m) h = tt
+takes-room kind o (S.Counter c) (withdraw l m) h = tt
+takes-room kind o (S.Counter c) read h = tt
+takes-room kind o (S.Counter c) (write m) h = tt
+takes-room kind o (S.Counter c) (adjust {z} m) h = omega (arith, sum-size (c .count) z)
+takes-room kind o (S.Counter c) count h = tt
 
 -- the answer's numbers are read back as that answer
 pub takes-recalled : (kind : Kind) (o : Operation) (s : State) → StateOf kind s → Takes kind o → Bounded s
@@ -77,19 +94,30 @@ takes-recalled kind o s account (deposit l m) h = refl
 takes-recalled kind o s (account {n}) (withdraw {n = m} l k) h = ⊎-elim (λ e. rw (le-leb m n e)) (λ e. rw (lt-leb m n e)) (le-or m n)
 takes-recalled kind o s (register {n} b) read h = rw (le-leb 0 n (omega arith), le-leb n R.valueMost h)
 takes-recalled kind o s (register b) (write m) h = refl
+takes-recalled kind o s counter (adjust m) h = refl
+takes-recalled kind o s (counter {z}) count h = rw (above-least z K.countBound h, below-most z K.countBound h)
 
--- a step keeps the kind's states, and grows by one deposit at most
+-- what has grown by at most k has by at most one more
+pub grown-more : (kind : Kind) (k : ℕ) (s : State) → Grown kind k s → Grown kind (suc k) s
+grown-more kind i s (upto n k h) = upto n (suc k) (omega arith)
+grown-more kind i s (kept n k h) = kept n (suc k) h
+grown-more kind i s (aside z k h) = aside z (suc k) (omega arith)
+
+-- a step keeps the kind's states, and grows by one deposit or adjustment at most
 pub takes-grown : (kind : Kind) (o : Operation) (s : State) (k : ℕ) → Grown kind k s → Takes kind o → Grown kind (suc k) (stepOf s o .state)
-takes-grown kind o s i (upto n k h) balance = upto n (suc k) (omega arith)
+takes-grown kind o s i (upto n k h) balance = grown-more kind k (A.accountOf n) (upto n k h)
 takes-grown kind o s i (upto n k h) (deposit {n = m} l r) = upto (n + m) (suc k) (omega arith)
 takes-grown kind o s i (upto n k h) (withdraw {n = m} l r) =
     ⊎-elim (λ e. rw (le-leb m n e) (upto (n - m) (suc k) (omega arith))) (λ e. rw (lt-leb m n e) (upto n (suc k) (omega arith))) (le-or m n)
-takes-grown kind o s i (kept n k h) read = kept n (suc k) h
+takes-grown kind o s i (kept n k h) read = grown-more kind k (R.registerOf n) (kept n k h)
 takes-grown kind o s i (kept n k h) (write {n = m} r) = kept m (suc k) r
+takes-grown kind o s i (aside z k h) (adjust {z = y} m) = aside (z +ℤ y) (suc k) (omega (arith, sum-size z y))
+takes-grown kind o s i (aside z k h) count = grown-more kind k (K.counterOf z) (aside z k h)
 
 pub grown-has : (kind : Kind) (k : ℕ) (s : State) → Grown kind k s → k ≤ 1024 → StateOf kind s × Bounded s
 grown-has kind i s (upto n k h) l = (account, omega arith)
 grown-has kind i s (kept n k h) l = (register h, h)
+grown-has kind i s (aside z k h) l = (counter, omega arith)
 
 -- an opening has grown by nothing
 abbrev GrownIf : Kind → Opening → Type 0
@@ -97,8 +125,9 @@ GrownIf kind (At s) = Grown kind 0 s
 GrownIf kind Refused = Unit {0}
 
 opens-grown : (kind : Kind) (x : ℤ) → GrownIf kind (openedOf kind x)
-opens-grown Account x = ranged (GrownIf Account) _ Refused x 0 A.openingMost (λ n l h. upto n 0 (omega arith)) tt
-opens-grown Register x = ranged (GrownIf Register) _ Refused x 0 R.valueMost (λ n l h. kept n 0 h) tt
+opens-grown Account x = ranged (GrownIf Account) (λ n. At (A.accountOf n)) Refused x 0 A.openingMost (λ n l h. upto n 0 (omega arith)) tt
+opens-grown Register x = ranged (GrownIf Register) (λ n. At (R.registerOf n)) Refused x 0 R.valueMost (λ n l h. kept n 0 h) tt
+opens-grown Counter x = either-sided (GrownIf Counter) (λ z. At (K.counterOf z)) Refused x K.openingMost (λ h. aside x 0 (omega arith)) tt
 opens-grown Unknown x = tt
 
 pub opened-grown : (kind : Kind) (x : ℤ) (s : State) → openedOf kind x ≡ At s → Grown kind 0 s

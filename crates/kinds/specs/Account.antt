@@ -2,7 +2,7 @@
 use Prim.Native.Nat.{ℕ, _+_, _-_, _<_, _^_}
 use mathlib.Core.Bool.{cond}
 use mathlib.Core.List.{List, [], _∷_}
-use lib.IntN.{ℤ}
+use lib.IntN.{ℤ, pos}
 use lib.Dec.{leb, eqb}
 use Rattle.kinds.specs.declared.account.Account.{Account}
 use Rattle.kinds.specs.declared.account.AccountOperation.{AccountOperation}
@@ -19,10 +19,10 @@ use Rattle.kinds.specs.declared.Opening.{Opening}
 use Rattle.kinds.specs.declared.Opening.the-variants.{At, Refused}
 use Rattle.kinds.specs.declared.Decoded.{Decoded}
 use Rattle.kinds.specs.declared.Decoded.the-variants.{Fit, Unfit}
-use Rattle.kinds.specs.declared.Class.{Class}
-use Rattle.kinds.specs.declared.Class.the-variants.{Row, None}
-use Rattle.kinds.specs.declared.Rule.{Rule}
-use Rattle.kinds.specs.declared.Rule.the-variants.{Pass, Conflict}
+use Rattle.kinds.specs.declared.table.Class.{Class}
+use Rattle.kinds.specs.declared.table.Class.the-variants.{Row, None}
+use Rattle.kinds.specs.declared.table.Rule.{Rule}
+use Rattle.kinds.specs.declared.table.Rule.the-variants.{Pass, Conflict}
 use Rattle.kinds.specs.Range.{inRange}
 use Rattle.kinds.specs.Outcome.{ok, fail, value, withValue, withoutValue}
 
@@ -53,7 +53,7 @@ decodeOf operation argument =
 
 -- a withdrawal succeeds if the balance is at least the amount; otherwise it answers FAIL and changes nothing
 abbrev pub stepOf : Account → AccountOperation → Stepped
-stepOf account Balance = record { state = S.Account account; outcome = Value (account .balance) }
+stepOf account Balance = record { state = S.Account account; outcome = Value (pos (account .balance)) }
 stepOf account (Deposit n) = record { state = accountOf (account .balance + n); outcome = Ok }
 stepOf account (Withdraw n) =
     cond (leb n (account .balance)) (record { state = accountOf (account .balance - n); outcome = Ok })
@@ -67,20 +67,20 @@ Room account (Withdraw n) = Unit {0}
 
 -- the outcomes that an operation allows, by a and b
 abbrev pub recallOf : AccountOperation → ℕ → ℤ → Recalled
-recallOf Balance a b = cond (eqb a value) (withValue b 0 balanceMost) Unshaped
+recallOf Balance a b = cond (eqb a value) (withValue b (pos 0) (pos balanceMost)) Unshaped
 recallOf (Deposit n) a b = cond (eqb a ok) (withoutValue Ok b) Unshaped
 recallOf (Withdraw n) a b = cond (eqb a ok) (withoutValue Ok b) (cond (eqb a fail) (withoutValue Fail b) Unshaped)
 
--- the row of each class of answer: balance, deposit, withdraw OK, withdraw FAIL
+-- the row of each class of answer: balance, deposit, withdraw OK, withdraw FAIL; its key is the balance or the amount
 abbrev pub classOf : AccountOperation → Outcome → Class
-classOf Balance (Value v) = Row 0
+classOf Balance (Value v) = Row 0 v
 classOf Balance Ok = None
 classOf Balance Fail = None
-classOf (Deposit n) Ok = Row 1
+classOf (Deposit n) Ok = Row 1 (pos n)
 classOf (Deposit n) Fail = None
 classOf (Deposit n) (Value v) = None
-classOf (Withdraw n) Ok = Row 2
-classOf (Withdraw n) Fail = Row 3
+classOf (Withdraw n) Ok = Row 2 (pos n)
+classOf (Withdraw n) Fail = Row 3 (pos n)
 classOf (Withdraw n) (Value v) = None
 
 abbrev pub table : List (List Rule)

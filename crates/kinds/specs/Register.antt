@@ -2,7 +2,7 @@
 use Prim.Native.Nat.{ℕ}
 use mathlib.Core.Bool.{cond}
 use mathlib.Core.List.{List, [], _∷_}
-use lib.IntN.{ℤ}
+use lib.IntN.{ℤ, pos}
 use lib.Dec.{eqb}
 use Rattle.kinds.specs.declared.register.Register.{Register}
 use Rattle.kinds.specs.declared.register.RegisterOperation.{RegisterOperation}
@@ -19,10 +19,10 @@ use Rattle.kinds.specs.declared.Opening.{Opening}
 use Rattle.kinds.specs.declared.Opening.the-variants.{At, Refused}
 use Rattle.kinds.specs.declared.Decoded.{Decoded}
 use Rattle.kinds.specs.declared.Decoded.the-variants.{Fit, Unfit}
-use Rattle.kinds.specs.declared.Class.{Class}
-use Rattle.kinds.specs.declared.Class.the-variants.{Row, None}
-use Rattle.kinds.specs.declared.Rule.{Rule}
-use Rattle.kinds.specs.declared.Rule.the-variants.{Pass, Conflict}
+use Rattle.kinds.specs.declared.table.Class.{Class}
+use Rattle.kinds.specs.declared.table.Class.the-variants.{Row, None}
+use Rattle.kinds.specs.declared.table.Rule.{Rule}
+use Rattle.kinds.specs.declared.table.Rule.the-variants.{Pass, Conflict}
 use Rattle.kinds.specs.Range.{inRange}
 use Rattle.kinds.specs.Outcome.{ok, value, withValue, withoutValue}
 
@@ -44,20 +44,20 @@ decodeOf operation argument =
     (cond (eqb operation 5) (inRange argument 0 valueMost (λ n. Fit (O.Register (Write n))) Unfit) Unfit)
 
 abbrev pub stepOf : Register → RegisterOperation → Stepped
-stepOf register Read = record { state = S.Register register; outcome = Value (register .value) }
+stepOf register Read = record { state = S.Register register; outcome = Value (pos (register .value)) }
 stepOf register (Write n) = record { state = registerOf n; outcome = Ok }
 
 -- the outcomes that an operation allows, by a and b
 abbrev pub recallOf : RegisterOperation → ℕ → ℤ → Recalled
-recallOf Read a b = cond (eqb a value) (withValue b 0 valueMost) Unshaped
+recallOf Read a b = cond (eqb a value) (withValue b (pos 0) (pos valueMost)) Unshaped
 recallOf (Write n) a b = cond (eqb a ok) (withoutValue Ok b) Unshaped
 
--- the row of each class of answer: read, write
+-- the row of each class of answer: read, write; its key is the value
 abbrev pub classOf : RegisterOperation → Outcome → Class
-classOf Read (Value v) = Row 0
+classOf Read (Value v) = Row 0 v
 classOf Read Ok = None
 classOf Read Fail = None
-classOf (Write n) Ok = Row 1
+classOf (Write n) Ok = Row 1 (pos n)
 classOf (Write n) Fail = None
 classOf (Write n) (Value v) = None
 

@@ -1,12 +1,12 @@
 // The account: its limits, its opening state, its operations and its conflict table.
 ghost use mathlib.Core.Path.{_≡_};
 ghost use Rattle.kinds.specs.Account.{openedOf, table};
-ghost use Rattle.kinds.specs.Kinds.{entry};
+ghost use Rattle.kinds.specs.Table.{entry};
 use crate::Opening;
-use crate::Rule;
 use crate::State;
 use crate::range::Ranged;
 use crate::range::within;
+use crate::table::Rule;
 
 pub struct Account {
     pub balance: u32,
@@ -37,9 +37,9 @@ impl Account {
     pub const AMOUNT_MOST: u32 = 1_000_000;
 
     // What a balance answers: up to the largest opening and 1,024 deposits of the largest size.
-    pub const ANSWER_LEAST: u32 = 0;
+    pub const ANSWER_LEAST: i64 = 0;
 
-    pub const ANSWER_MOST: u32 = 2_024_000_000;
+    pub const ANSWER_MOST: i64 = 2_024_000_000;
 
     // The rows and columns of its table.
     pub const BALANCE_ROW: usize = 0;

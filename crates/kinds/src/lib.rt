@@ -1,12 +1,16 @@
-// The kinds of document 01: their states and operations, their limits and numbers, the state that each opens with, and its conflict table.
-// A kind's own part is in its own file. specs/ says besides what an operation does; `account`, `register` and `serial` have the functions that do it.
+// The kinds of document 01 and request Q-1: their states and operations, their limits and numbers, the state that each opens with, and its conflict table.
+// A kind's own part is in its own file. specs/ says besides what an operation does; `account`, `register`, `counter` and `serial` have the functions that do it.
 mod account;
+mod counter;
 mod outcome;
 pub mod range;
 mod register;
+mod table;
 
 pub use account::Account;
 pub use account::AccountOperation;
+pub use counter::Counter;
+pub use counter::CounterOperation;
 pub use outcome::Numbers;
 pub use outcome::Outcome;
 pub use outcome::Recalled;
@@ -15,21 +19,26 @@ pub use outcome::with_value;
 pub use outcome::without_value;
 pub use register::Register;
 pub use register::RegisterOperation;
+pub use table::Class;
+pub use table::Rule;
 
 pub enum Kind {
     Account,
     Register,
+    Counter,
     Unknown,
 }
 
 pub enum Operation {
     Account(AccountOperation),
     Register(RegisterOperation),
+    Counter(CounterOperation),
 }
 
 pub enum State {
     Account(Account),
     Register(Register),
+    Counter(Counter),
 }
 
 // An operation with its outcome.
@@ -53,16 +62,4 @@ pub enum Decoded {
 pub struct Stepped {
     pub state: State,
     pub outcome: Outcome,
-}
-
-// The row, and column, of an answer in the table of its kind.
-pub enum Class {
-    Row(usize),
-    None,
-}
-
-// An entry of a kind's table.
-pub enum Rule {
-    Pass,
-    Conflict,
 }

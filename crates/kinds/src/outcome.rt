@@ -7,7 +7,7 @@ use crate::range::within;
 pub enum Outcome {
     Ok,
     Fail,
-    Value(u32),
+    Value(i64),
 }
 
 // Document 01's a and b of an outcome.
@@ -48,19 +48,22 @@ pub fn numbers_of(outcome: Outcome) -> Numbers
         },
         Outcome::Value(v) => Numbers {
             a: Numbers::VALUE,
-            b: v as i64,
+            b: v,
         },
     }
 }
 
 // A value from low to high, as an outcome.
-pub fn with_value(b: i64, low: u32, high: u32) -> Recalled
+pub fn with_value(b: i64, low: i64, high: i64) -> Recalled
     ensures { λ r. ⌜ r ≡ withValue b low high ⌝ }
 {
-    match within(b, low, high) {
-        Ranged::In(v) => Recalled::Given(Outcome::Value(v)),
-        Ranged::Out => Recalled::Unshaped,
+    if b < low {
+        return Recalled::Unshaped;
     }
+    if high < b {
+        return Recalled::Unshaped;
+    }
+    Recalled::Given(Outcome::Value(b))
 }
 
 // An outcome that has no value: b is 0.

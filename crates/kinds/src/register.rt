@@ -1,12 +1,12 @@
 // The register: its limits, its opening state, its operations and its conflict table.
 ghost use mathlib.Core.Path.{_≡_};
 ghost use Rattle.kinds.specs.Register.{openedOf, table};
-ghost use Rattle.kinds.specs.Kinds.{entry};
+ghost use Rattle.kinds.specs.Table.{entry};
 use crate::Opening;
-use crate::Rule;
 use crate::State;
 use crate::range::Ranged;
 use crate::range::within;
+use crate::table::Rule;
 
 pub struct Register {
     pub value: u32,

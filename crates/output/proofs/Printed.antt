@@ -2,16 +2,17 @@
 use Prim.Native.Nat.{ℕ, _≤_}
 use Prim.Native.Char.{code}
 use mathlib.Core.Path.{_≡_, refl, sym, _∙_}
-use mathlib.Core.Logic.{inl, inr, _↔_, ⊎-elim}
+use mathlib.Core.Logic.{_↔_, ⊎-elim}
 use mathlib.Core.Bool.{false≢true}
 use mathlib.Core.List.{List, [], _∷_}
 use native.Mathlib.Omega.{arith}
 use lib.ListN.{length, length-append}
 use borrow.Author.Tests.{ne-eqb}
-use Rattle.below.proofs.Tests.{bool-or, same-or, le-or}
+use Rattle.below.proofs.Tests.{bool-or, le-or}
 use Rattle.kinds.specs.Kinds.{kindOf}
 use Rattle.written.specs.Written.{bytesMost, joined, KindLetter}
 use Rattle.written.specs.File.{File, good, bad, fileOf}
+use Rattle.written.proofs.Letters.{kind-each, kind-among}
 use Rattle.written.proofs.Reading.{read-exactly, first-wrong, too-long}
 use Rattle.refusal.specs.declared.Answer.{Answer}
 use Rattle.refusal.specs.Open.{openable}
@@ -61,11 +62,10 @@ prints-some s = some-joined (answersOf (fileOf s)) (some-answer (fileOf s))
 pub letters-kinds : (letter : ℕ) → KindLetter letter ↔ NamesKind letter
 unfolding kindOf
 letters-kinds letter = (
-  ⊎-elim
-      (λ a e. let z : _≡_ {A = ℕ} 0 1 = cc (rw a at e) in omega arith)
-      (λ r e. let z : _≡_ {A = ℕ} 0 1 = cc (rw r at e) in omega arith),
-  λ known.
-      ⊎-elim inl
-      (λ a. ⊎-elim inr (λ r. absurd (known (rw (ne-eqb letter (code "A") a, ne-eqb letter (code "R") r)))) (same-or letter (code "R")))
-      (same-or letter (code "A")),
+  kind-each NamesKind
+      (λ e. let z : _≡_ {A = ℕ} 0 1 = cc in omega arith)
+      (λ e. let z : _≡_ {A = ℕ} 0 1 = cc in omega arith)
+      (λ e. let z : _≡_ {A = ℕ} 0 1 = cc in omega arith)
+      letter,
+  λ known. kind-among letter (λ a r k. known (rw (ne-eqb letter (code "A") a, ne-eqb letter (code "R") r, ne-eqb letter (code "K") k))),
 )

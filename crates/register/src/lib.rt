@@ -38,7 +38,7 @@ pub fn step(register: Register, operation: RegisterOperation) -> Stepped
     match operation {
         RegisterOperation::Read => Stepped {
             state: State::Register(register),
-            outcome: Outcome::Value(register.value),
+            outcome: Outcome::Value(register.value as i64),
         },
         RegisterOperation::Write(value) => Stepped {
             state: State::Register(Register { value }),
@@ -52,7 +52,11 @@ pub fn recall(operation: RegisterOperation, a: u32, b: i64) -> Recalled
 {
     match operation {
         RegisterOperation::Read => match a {
-            Numbers::VALUE => with_value(b, Register::VALUE_LEAST, Register::VALUE_MOST),
+            Numbers::VALUE => with_value(
+                b,
+                Register::VALUE_LEAST as i64,
+                Register::VALUE_MOST as i64,
+            ),
             _ => Recalled::Unshaped,
         },
         RegisterOperation::Write(_) => match a {
@@ -67,12 +71,12 @@ pub fn class_of(operation: RegisterOperation, outcome: Outcome) -> Class
 {
     match operation {
         RegisterOperation::Read => match outcome {
-            Outcome::Value(_) => Class::Row(Register::READ_ROW),
+            Outcome::Value(v) => Class::Row(Register::READ_ROW, v),
             Outcome::Ok => Class::None,
             Outcome::Fail => Class::None,
         },
-        RegisterOperation::Write(_) => match outcome {
-            Outcome::Ok => Class::Row(Register::WRITE_ROW),
+        RegisterOperation::Write(n) => match outcome {
+            Outcome::Ok => Class::Row(Register::WRITE_ROW, n as i64),
             Outcome::Fail => Class::None,
             Outcome::Value(_) => Class::None,
         },

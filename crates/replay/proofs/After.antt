@@ -13,8 +13,8 @@ use Rattle.kinds.specs.declared.Decoded.the-variants.{Fit, Unfit}
 use Rattle.kinds.specs.declared.Opening.{Opening}
 use Rattle.kinds.specs.declared.Opening.the-variants.{At, Refused}
 use Rattle.kinds.specs.Kinds.{openedOf, startOf, opens, decodeOf, Bounded}
-use Rattle.kinds.specs.Object.{Grown, upto, kept}
-use Rattle.kinds.proofs.Takes.{decoded-takes, takes-grown, grown-has, opened-grown}
+use Rattle.kinds.specs.Object.{Grown}
+use Rattle.kinds.proofs.Takes.{decoded-takes, takes-grown, grown-more, grown-has, opened-grown}
 use Rattle.columns.specs.Column.{at, atZ}
 use Rattle.replay.specs.Access.{askedOf}
 use Rattle.replay.specs.View.{afterOne, afterAll}
@@ -32,10 +32,6 @@ pub after-append : (asked : ℕ → Decoded) (l m : List ℕ) (s : State) → af
 unfolding afterAll
 after-append asked [] m s = refl
 after-append asked (x ∷ l) m s = after-append asked l m (afterOne (asked x) s)
-
-grown-more : (kind : Kind) (k : ℕ) (s : State) → Grown kind k s → Grown kind (suc k) s
-grown-more kind i s (upto n k h) = upto n (suc k) (omega arith)
-grown-more kind i s (kept n k h) = kept n (suc k) h
 
 one-grown : (kind : Kind) (w : ℕ) (z : ℤ) (d : Decoded) (k : ℕ) (s : State) → decodeOf kind w z ≡ d → Grown kind k s → Grown kind (suc k) (afterOne d s)
 one-grown kind w z (Fit o) k s e g = takes-grown kind o s k g (decoded-takes kind w z o e)

@@ -1,25 +1,20 @@
 // The lines of the file's two sections.
 ghost use mathlib.Core.Path.{_≡_};
-ghost use lib.IntN.{pos};
 ghost use Rattle.written.specs.Line.{letterAt, isKind, singleOf, accessAt, objectAt, callAt};
 use text::number::LINE_END;
 use text::number::Number;
 use text::number::SPACE;
 use text::number::number_at;
+use text::signed::Signed;
+use text::signed::signed_at;
 use written::Call;
 use written::CallLine;
 use written::ObjectLine;
 
-fn signed(v: u32) -> i64
-    ensures { λ r. ⌜ r ≡ pos v ⌝ }
-{
-    v as i64
-}
-
 fn is_kind(letter: u8) -> bool
     ensures { λ r. ⌜ r ≡ isKind letter ⌝ }
 {
-    letter == b'A' || letter == b'R'
+    letter == b'A' || letter == b'R' || letter == b'K'
 }
 
 // The byte at a place where a space follows it, and 0 elsewhere.
@@ -68,13 +63,10 @@ fn access_at(file: &[u8], at: usize) -> CallLine
     let Number::Value(operation, argument_at) = number_at(file, operation_at, SPACE) else {
         return CallLine::Wrong;
     };
-    let Number::Value(argument, next) = number_at(file, argument_at, LINE_END) else {
+    let Signed::Value(argument, next) = signed_at(file, argument_at, LINE_END) else {
         return CallLine::Wrong;
     };
-    CallLine::Call(
-        Call::Access(parent, object, operation, signed(argument)),
-        next,
-    )
+    CallLine::Call(Call::Access(parent, object, operation, argument), next)
 }
 
 pub fn call_at(file: &[u8], at: usize) -> CallLine
@@ -103,8 +95,8 @@ pub fn object_at(file: &[u8], at: usize) -> ObjectLine
         return ObjectLine::Wrong;
     }
     let from = at + 2;
-    let Number::Value(opening, next) = number_at(file, from, LINE_END) else {
+    let Signed::Value(opening, next) = signed_at(file, from, LINE_END) else {
         return ObjectLine::Wrong;
     };
-    ObjectLine::Object(letter, signed(opening), next)
+    ObjectLine::Object(letter, opening, next)
 }

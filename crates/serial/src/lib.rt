@@ -1,10 +1,12 @@
-// The serial objects of document 01: what each kind takes, what an operation does to a state and answers, and which answers conflict.
+// The serial objects of document 01 and request Q-1: what each kind takes, what an operation does to a state and answers, and which answers conflict.
 // The definitions of all this, and what is proved of them, are in `kinds`. A kind's own part is in its own crate; here the kinds are told apart.
 ghost use mathlib.Core.Path.{_≡_};
-ghost use Rattle.kinds.specs.Kinds.{kindOf, openedOf, startOf, decodeOf, stepOf, Room, recallOf, classOf, tableOf, entry, conflictOf};
+ghost use Rattle.kinds.specs.Kinds.{kindOf, openedOf, startOf, decodeOf, idle, stepOf, Room, recallOf, classOf, tableOf, conflictOf};
+ghost use Rattle.kinds.specs.Table.{entry};
 use kinds::Account;
 use kinds::Answered;
 use kinds::Class;
+use kinds::Counter;
 use kinds::Decoded;
 use kinds::Kind;
 use kinds::Opening;
@@ -22,6 +24,7 @@ pub fn kind_of(letter: u8) -> Kind
     match letter {
         b'A' => Kind::Account,
         b'R' => Kind::Register,
+        b'K' => Kind::Counter,
         _ => Kind::Unknown,
     }
 }
@@ -32,6 +35,7 @@ pub fn opened(kind: Kind, opening: i64) -> Opening
     match kind {
         Kind::Account => Account::opened(opening),
         Kind::Register => Register::opened(opening),
+        Kind::Counter => Counter::opened(opening),
         Kind::Unknown => Opening::Refused,
     }
 }
@@ -52,11 +56,21 @@ pub fn decode(kind: Kind, operation: u32, argument: i64) -> Decoded
     match kind {
         Kind::Account => account::decode(operation, argument),
         Kind::Register => register::decode(operation, argument),
+        Kind::Counter => counter::decode(operation, argument),
         Kind::Unknown => Decoded::Unfit,
     }
 }
 
-// An operation of another kind changes nothing.
+// An operation of another kind fails and changes nothing.
+fn unchanged(state: State) -> Stepped
+    ensures { λ r. ⌜ r ≡ idle state ⌝ }
+{
+    Stepped {
+        state,
+        outcome: Outcome::Fail,
+    }
+}
+
 pub fn step(state: State, operation: Operation) -> Stepped
     requires { ⌜ Room state operation ⌝ }
     ensures { λ r. ⌜ r ≡ stepOf state operation ⌝ }
@@ -64,17 +78,15 @@ pub fn step(state: State, operation: Operation) -> Stepped
     match state {
         State::Account(account) => match operation {
             Operation::Account(o) => account::step(account, o),
-            Operation::Register(_) => Stepped {
-                state,
-                outcome: Outcome::Fail,
-            },
+            _ => unchanged(state),
         },
         State::Register(register) => match operation {
             Operation::Register(o) => register::step(register, o),
-            Operation::Account(_) => Stepped {
-                state,
-                outcome: Outcome::Fail,
-            },
+            _ => unchanged(state),
+        },
+        State::Counter(counter) => match operation {
+            Operation::Counter(o) => counter::step(counter, o),
+            _ => unchanged(state),
         },
     }
 }
@@ -85,6 +97,7 @@ pub fn recall(operation: Operation, a: u32, b: i64) -> Recalled
     match operation {
         Operation::Account(o) => account::recall(o, a, b),
         Operation::Register(o) => register::recall(o, a, b),
+        Operation::Counter(o) => counter::recall(o, a, b),
     }
 }
 
@@ -96,11 +109,15 @@ fn class_of(kind: Kind, answered: Answered) -> Class
     match kind {
         Kind::Account => match operation {
             Operation::Account(o) => account::class_of(o, outcome),
-            Operation::Register(_) => Class::None,
+            _ => Class::None,
         },
         Kind::Register => match operation {
             Operation::Register(o) => register::class_of(o, outcome),
-            Operation::Account(_) => Class::None,
+            _ => Class::None,
+        },
+        Kind::Counter => match operation {
+            Operation::Counter(o) => counter::class_of(o, outcome),
+            _ => Class::None,
         },
         Kind::Unknown => Class::None,
     }
@@ -112,22 +129,20 @@ fn rule_of(kind: Kind, row: usize, column: usize) -> Rule
     match kind {
         Kind::Account => Account::rule_of(row, column),
         Kind::Register => Register::rule_of(row, column),
+        Kind::Counter => Counter::rule_of(row, column),
         Kind::Unknown => Rule::Conflict,
     }
 }
 
-// Whether two answers on an object of the kind conflict. What is no answer of the kind conflicts with everything.
+// Whether two answers on an object of the kind conflict. What has no class, such as an operation of another kind, conflicts with everything.
 pub fn conflicts(kind: Kind, asking: Answered, held: Answered) -> bool
     ensures { λ r. ⌜ r ≡ conflictOf kind asking held ⌝ }
 {
-    let Class::Row(row) = class_of(kind, asking) else {
+    let Class::Row(row, asking_key) = class_of(kind, asking) else {
         return true;
     };
-    let Class::Row(column) = class_of(kind, held) else {
+    let Class::Row(column, held_key) = class_of(kind, held) else {
         return true;
     };
-    match rule_of(kind, row, column) {
-        Rule::Pass => false,
-        Rule::Conflict => true,
-    }
+    rule_of(kind, row, column).judge(asking_key, held_key)
 }

@@ -42,7 +42,8 @@ module _ (s : Store) (fine : inForm s ≡ true) where
         form .lists .few,
       )
 
-  -- no balance can exceed 2,024,000,000, the largest opening and 1,024 deposits of the largest size, and no register's value 1,000,000,000
+  -- no balance can exceed 2,024,000,000, the largest opening and 1,024 deposits of the largest size, no register's value 1,000,000,000, and no count is
+  -- further than 2,024,000,000 from zero
   pub state-bounded : (o t : ℕ) → o < s .objects → t ≤ s .count → StateOf (kindAt s o) (stateFor s o t) × Bounded (stateFor s o t)
   state-bounded o t known h =
       let start = left-start (kindAt s o) (atZ (s .opening) o) (length (viewOf s o t) + 0) (form .objects .opened o known) (omega (arith, view-short o t h)) in

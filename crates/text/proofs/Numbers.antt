@@ -1,18 +1,21 @@
--- A number as it is read: its start, and one byte more.
+-- A number as it is read: its start, and one byte more; and its sign.
 use Prim.Native.Nat.{ℕ, _+_, _-_, _≤_, _<_}
 use mathlib.Core.Path.{_≡_}
 use mathlib.Core.List.{List}
 use mathlib.Core.Bool.{true, cond}
 use native.Mathlib.Numerals.{add-one}
-use borrow.Author.Tests.{leb-true}
-use lib.ListN.{length, getD, drop, drop-of-length-le}
+use borrow.Author.Tests.{leb-true, eq-eqb, ne-eqb}
+use lib.ListN.{length, getD, drop, drop-of-length-le, List·getD-eq-default}
 use lib.Seq.{drop-cons}
+use lib.IntN.{pos}
 use lib.Dec.{ltb, leb, eqb}
 use Rattle.below.proofs.Tests.{and-fst, and-snd}
-use Rattle.text.specs.Text.{numberMost}
-use Rattle.text.specs.Number.{isDigit, further, restOf, firstOf, numberAt}
+use Rattle.text.specs.Text.{numberMost, minus}
+use Rattle.text.specs.Number.{isDigit, further, restOf, firstOf, numberAt, onNumber}
+use Rattle.text.specs.Signed.{negativeAt, signedAt}
 use Rattle.text.specs.declared.number.Number.{Number}
 use Rattle.text.specs.declared.number.Number.the-variants.{Value, Wrong}
+use Rattle.text.specs.declared.signed.Signed.the-variants as S
 
 pub number-end : (stop : ℕ) (file : List ℕ) (at : ℕ) → length file ≤ at → numberAt stop file at ≡ Wrong
 unfolding numberAt firstOf
@@ -45,3 +48,17 @@ digit-low b e = leb-true 48 b (and-fst (leb 48 b) (leb b 57) e)
 
 pub digit-high : (b : ℕ) → isDigit b ≡ true → b ≤ 57
 digit-high b e = leb-true b 57 (and-snd (leb 48 b) (leb b 57) e)
+
+pub signed-minus : (stop : ℕ) (file : List ℕ) (at : ℕ) → getD file at 0 ≡ minus → signedAt stop file at ≡ negativeAt stop file (at + 1)
+unfolding signedAt
+signed-minus stop file at e = rw (eq-eqb (getD file at 0) minus e)
+
+pub signed-other : (stop : ℕ) (file : List ℕ) (at : ℕ) → (getD file at 0 ≡ minus → ⊥)
+    → signedAt stop file at ≡ onNumber (numberAt stop file at) S.Wrong (λ v i. S.Value (pos v) i)
+unfolding signedAt
+signed-other stop file at n = rw (ne-eqb (getD file at 0) minus n)
+
+-- past the end no minus stands, and no number
+pub signed-end : (stop : ℕ) (file : List ℕ) (at : ℕ) → length file ≤ at → signedAt stop file at ≡ S.Wrong
+unfolding signedAt
+signed-end stop file at h = rw (List·getD-eq-default file 0 {n = at} h, number-end stop file at h)

@@ -17,7 +17,7 @@ use Rattle.promise.proofs.Sole.{whole}
 use Rattle.below.proofs.Tests.{le-or, cases}
 use Rattle.text.specs.Puts.{Puts}
 use Rattle.text.specs.Text.{digits, decimal, signedText, answerText, minus, answerMost, codesBelow}
-use Rattle.text.specs.Sign.{sizeOf, isNegative}
+use Rattle.text.specs.Sign.{isNegative}
 
 -- writing two texts joined is writing one and then the other
 sets-append : {A : Type 0} (l : List A) (i : ℕ) (s t : List A) → sets l i (s ++ t) ≡ sets (sets l i s) (i + length s) t
@@ -74,11 +74,11 @@ decimal-length : (k n : ℕ) → n < 10 ^ suc k → length (decimal n) ≤ suc k
 unfolding decimal
 decimal-length k n p = digits-short (suc n) k n p
 
-pub signed-negative : (z : ℤ) → isNegative z ≡ true → signedText z ≡ (minus ∷ []) ++ decimal (sizeOf z)
+pub signed-negative : (z : ℤ) → isNegative z ≡ true → signedText z ≡ (minus ∷ []) ++ decimal (natAbs z)
 signed-negative (pos n) e = absurd (false≢true e)
 signed-negative (negsuc n) e = refl
 
-pub signed-plain : (z : ℤ) → isNegative z ≡ false → signedText z ≡ decimal (sizeOf z)
+pub signed-plain : (z : ℤ) → isNegative z ≡ false → signedText z ≡ decimal (natAbs z)
 signed-plain (pos n) e = refl
 signed-plain (negsuc n) e = absurd (true≢false e)
 
@@ -96,15 +96,15 @@ up-fits (pos n) e f = absurd (false≢true e)
 up-fits (negsuc zero) e f = record { sfits = omega arith }
 up-fits (negsuc (suc m)) e f = rw up-one (record { sfits = omega (arith, f .sfits) })
 
-pub above-size : (z : ℤ) → isNegative z ≡ true → pos 0 -ℤ (z +ℤ pos 1) ≡ pos (sizeOf z - 1)
+pub above-size : (z : ℤ) → isNegative z ≡ true → pos 0 -ℤ (z +ℤ pos 1) ≡ pos (natAbs z - 1)
 above-size (pos n) e = absurd (false≢true e)
 above-size (negsuc n) e = rw (up-one, negℤ-negℤ) (ap pos (omega arith))
 
-pub size-fits : (z : ℤ) → SFits w64 z → sizeOf z ≤ 2 ^ 63
+pub size-fits : (z : ℤ) → SFits w64 z → natAbs z ≤ 2 ^ 63
 size-fits (pos n) f = omega (arith, f .sfits)
 size-fits (negsuc n) f = omega (arith, f .sfits)
 
-pub size-some : (z : ℤ) → isNegative z ≡ true → 1 ≤ sizeOf z
+pub size-some : (z : ℤ) → isNegative z ≡ true → 1 ≤ natAbs z
 size-some (pos n) e = absurd (false≢true e)
 size-some (negsuc n) e = omega arith
 

@@ -1,11 +1,6 @@
--- A number without its sign, and whether it has one; the printer's own.
-use Prim.Native.Nat.{ℕ, suc}
+-- Whether a number has a sign; the printer's own.
 use mathlib.Core.Bool.{Bool, true, false}
 use lib.IntN.{ℤ, pos, negsuc}
-
-abbrev pub sizeOf : ℤ → ℕ
-sizeOf (pos n) = n
-sizeOf (negsuc n) = suc n
 
 abbrev pub isNegative : ℤ → Bool
 isNegative (pos n) = false

@@ -3,8 +3,9 @@ ghost use mathlib.Core.Path.{_≡_};
 ghost use mathlib.Core.List.{[], _∷_};
 ghost use Prim.Native.Nat.{_+_, _≤_, _<_};
 ghost use lib.ListN.{length};
+ghost use lib.IntN.{natAbs};
 ghost use Rattle.text.specs.Text.{decimal, signedText, answerText, answerMost, codesBelow};
-ghost use Rattle.text.specs.Sign.{sizeOf, isNegative};
+ghost use Rattle.text.specs.Sign.{isNegative};
 ghost use Rattle.text.specs.Puts.{Puts};
 use crate::number::LINE_END;
 use crate::number::SPACE;
@@ -40,7 +41,7 @@ fn put_number(out: &mut [u8], at: usize, n: u64) -> usize
 }
 
 fn magnitude(z: i64) -> u64
-    ensures { λ r. ⌜ r ≡ sizeOf z ⌝ }
+    ensures { λ r. ⌜ r ≡ natAbs z ⌝ }
 {
     if z < 0 {
         // The least number has no opposite.

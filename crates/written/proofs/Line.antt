@@ -3,27 +3,25 @@ use Prim.Native.Nat.{ℕ, _+_, _≤_, _<_}
 use Prim.Native.Char.{code}
 use mathlib.Core.Path.{_≡_, refl, sym, ap}
 use mathlib.Core.List.{List, [], _∷_}
-use mathlib.Core.Bool.{true, cond}
-use mathlib.Core.Logic.{_↔_, inl, inr}
+use mathlib.Core.Bool.{true, cond, false≢true}
+use mathlib.Core.Logic.{_↔_}
 use native.Mathlib.Omega.{arith}
-use lib.IntN.{ℤ, pos, negsuc}
-use lib.Dec.{ltb, eqb}
-use borrow.Author.Tests.{ltb-false, le-ltb, eqb-true}
+use lib.Dec.{ltb}
+use borrow.Author.Tests.{ltb-false, le-ltb, ne-eqb}
 use Rattle.text.specs.Text.{lineEnd, decimal, numberMost}
 use Rattle.text.specs.declared.number.Number.{Number}
 use Rattle.text.specs.declared.number.Number.the-variants.{Value, Wrong}
 use Rattle.below.proofs.Tests.{either}
-use Rattle.written.specs.Written.{Object, lineText, objectText, InRange, KindLetter, ObjectFits, Lines}
+use Rattle.written.specs.Written.{Object, objectText, KindLetter, ObjectFits, Lines}
 use Rattle.written.specs.Line.{letterAt, isKind}
 use Rattle.written.specs.Items.{Item, item, none}
 use Rattle.written.specs.Check.{objectRead, objectItem, countAt}
-use Rattle.written.specs.declared.ObjectLine.{ObjectLine}
 use Rattle.written.specs.declared.ObjectLine.the-variants as O
-use Rattle.written.proofs.Letters.{kind-not-zero}
+use Rattle.written.proofs.Letters.{kind-not-zero, kind-each, kind-among}
 use Rattle.written.proofs.Standing.{Stands}
 use Rattle.written.proofs.Lines.{inner-decimal, one-line}
 use Rattle.written.proofs.Number.{numberText, number-read}
-use Rattle.written.proofs.Fields.{nothing, fields-then, fields-complete, line-one, line-stands, line-letter, line-behind}
+use Rattle.written.proofs.Fields.{nothing, numbers, signeds, fields-then, fields-complete, line-one, line-stands, line-letter, line-behind}
 
 -- a kind of line: what is read, its text, and what may stand there
 pub record LineKind {A : Type 0} (line : List ℕ → ℕ → Item A) (text : A → List ℕ) (Fits : A → Type 0) : Type 0 where
@@ -54,7 +52,7 @@ within most n next = cond (ltb most n) Wrong (Value n next)
 
 count-sound : (most : ℕ) (s : List ℕ) (at n next : ℕ) → countItem most s at ≡ item n next → (n ≤ most) × Stands s at (countText n) next
 count-sound most s at n next e =
-    fields-then countOf Wrong refl s n next 0 (within most) at e
+    fields-then countOf Wrong refl s n next numbers 0 (within most) at e
     (λ m. either (ltb most (m .values))
     (λ over. nothing (rw over at (m .then)))
     (λ fits.
@@ -77,46 +75,41 @@ counts most small =
     }
 
 -- Object lines.
-kind-is : (letter : ℕ) → isKind letter ≡ true → KindLetter letter
-kind-is letter e = either (eqb letter (code "A")) (λ t. inl (eqb-true letter (code "A") t)) (λ f. inr (eqb-true letter (code "R") (rw f at e)))
-
 is-kind : (letter : ℕ) → KindLetter letter → isKind letter ≡ true
-is-kind letter (inl e) = rw e
-is-kind letter (inr e) = rw e
+is-kind = kind-each (λ letter. isKind letter ≡ true) refl refl refl
+
+kind-is : (letter : ℕ) → isKind letter ≡ true → KindLetter letter
+kind-is letter e =
+    kind-among letter (λ a r k. false≢true (rw (ne-eqb letter (code "A") a, ne-eqb letter (code "R") r, ne-eqb letter (code "K") k) at e))
 
 kind-high : (letter : ℕ) → KindLetter letter → lineEnd < letter
-kind-high letter (inl e) = omega arith
-kind-high letter (inr e) = omega arith
-
-abbrev objectWith : ℕ → ℕ → ℕ → ObjectLine
-objectWith letter opening next = O.Object letter (pos opening) next
+kind-high = kind-each (λ letter. lineEnd < letter) (omega arith) (omega arith) (omega arith)
 
 object-sound : (s : List ℕ) (at : ℕ) (o : Object) (next : ℕ) → objectItem s at ≡ item o next → ObjectFits o × Stands s at (objectText o) next
 object-sound s at o next e =
     either (isKind (letterAt s at))
-    (λ kind. fields-then objectRead O.Wrong refl s o next 0 (objectWith (letterAt s at)) (at + 2) (rw kind at e)
+    (λ kind. fields-then objectRead O.Wrong refl s o next signeds 0 (O.Object (letterAt s at)) (at + 2) (rw kind at e)
     (λ m.
-    let is : record { letter = letterAt s at; opening = pos (m .values) } ≡ o = cc (m .then) in
+    let is : record { letter = letterAt s at; opening = m .values } ≡ o = cc (m .then) in
     let ends : m .behind ≡ next = cc (m .then) in
     rw (← is, ← ends) (
       (kind-is (letterAt s at) kind, m .small .0),
-      line-stands s at (letterAt s at) (m .behind) 0 (m .values) refl (kind-not-zero (letterAt s at) kind) (m .text),
+      line-stands s at (letterAt s at) (m .behind) signeds 0 (m .values) refl (kind-not-zero (letterAt s at) kind) (m .text),
     )))
     (λ other. nothing (rw other at e))
 
-object-complete : (s : List ℕ) (at letter : ℕ) (opening : ℤ) (next : ℕ) → KindLetter letter → InRange opening
-    → Stands s at (lineText letter (opening ∷ [])) next → objectItem s at ≡ item (record { letter = letter; opening = opening }) next
-object-complete s at letter (pos v) next kind small t =
+object-complete : (s : List ℕ) (at : ℕ) (o : Object) (next : ℕ) → ObjectFits o → Stands s at (objectText o) next → objectItem s at ≡ item o next
+object-complete s at o next fits t =
     rw (
-      line-letter s at letter next 0 v t,
-      is-kind letter kind,
-      fields-complete O.Wrong s next 0 (objectWith letter) (at + 2) v (small, tt) (line-behind s at letter next 0 v t),
+      line-letter s at (o .letter) next signeds 0 (o .opening) t,
+      is-kind (o .letter) (fits .0),
+      fields-complete O.Wrong s next signeds 0 (O.Object (o .letter)) (at + 2) (o .opening) (fits .1, tt)
+          (line-behind s at (o .letter) next signeds 0 (o .opening) t),
     )
-object-complete s at letter (negsuc v) next kind small t = absurd small
 
 pub objects : LineKind objectItem objectText ObjectFits
 objects =
     record {
-      read = λ s at o next. (object-sound s at o next, λ w. object-complete s at (o .letter) (o .opening) next (w .0 .0) (w .0 .1) (w .1));
+      read = λ s at o next. (object-sound s at o next, λ w. object-complete s at o next (w .0) (w .1));
       one = λ o fits. line-one (o .letter) (o .opening ∷ []) (kind-high (o .letter) (fits .0));
     }

@@ -1,20 +1,26 @@
--- A number is read exactly where its digits stand with the end byte after them.
+-- A number is read exactly where its digits stand with the end byte after them, and a number with its sign where its text stands so.
 use Prim.Native.Nat.{ℕ, zero, suc, _+_, _-_, _*_, _/_, _%_, _≤_, _<_}
 use mathlib.Core.Path.{_≡_, refl, sym, _∙_, ap}
 use mathlib.Core.List.{List, [], _∷_, _++_, append-assoc}
-use mathlib.Core.Bool.{true}
+use mathlib.Core.Bool.{true, false, cond}
 use mathlib.Core.Logic.{_↔_}
 use native.Mathlib.Omega.{arith}
-use lib.ListN.{length, drop, length-append}
+use lib.IntN.{ℤ, pos, negsuc, negℤ}
+use lib.ListN.{length, drop, getD, length-append, List·getD-eq-default}
+use lib.Seq.{drop-cons}
 use lib.Dec.{ltb, leb, eqb}
 use borrow.Author.Tests.{ltb-false, eqb-true, eqb-false, le-ltb, le-leb, eq-eqb, ne-eqb}
 use Rattle.below.proofs.Tests.{le-or, and-both, either, cases}
-use Rattle.text.specs.Text.{decimal, numberMost}
-use Rattle.text.specs.Number.{isDigit, further, restOf, firstOf, numberAt}
+use Rattle.text.specs.Text.{minus, decimal, signedText, numberMost}
+use Rattle.text.specs.Number.{isDigit, further, restOf, firstOf, numberAt, onNumber}
+use Rattle.text.specs.Signed.{signedAt}
+use Rattle.text.specs.declared.number.Number.{Number}
 use Rattle.text.specs.declared.number.Number.the-variants.{Value, Wrong}
+use Rattle.text.specs.declared.signed.Signed.the-variants as S
 use Rattle.text.proofs.Printing.{decimal-small, decimal-more}
-use Rattle.text.proofs.Numbers.{digit-low, digit-high}
-use Rattle.written.proofs.Standing.{Stands, stands, stands-to}
+use Rattle.text.proofs.Numbers.{number-end, number-start, digit-low, digit-high, signed-minus, signed-other}
+use Rattle.written.specs.Written.{InRange}
+use Rattle.written.proofs.Standing.{Stands, stands, stands-then, stands-behind, stands-to, stands-byte}
 
 digit-so : (d : ℕ) → d < 10 → isDigit (48 + d) ≡ true
 digit-so d h = and-both (leb 48 (48 + d)) (leb (48 + d) 57) (le-leb 48 (48 + d) (omega arith)) (le-leb (48 + d) 57 (omega arith))
@@ -136,3 +142,69 @@ number-complete stop low s at v next fits p =
 pub number-read : (stop : ℕ) → stop < 48 → (s : List ℕ) (at v next : ℕ)
     → (numberAt stop s at ≡ Value v next) ↔ ((v ≤ numberMost) × Stands s at (numberText stop v) next)
 number-read stop low s at v next = (number-sound stop s at v next, λ w. number-complete stop low s at v next (w .0) (w .1))
+
+-- The sign.
+abbrev pub signedField : ℕ → ℤ → List ℕ
+signedField stop z = signedText z ++ (stop ∷ [])
+
+wrong-is-no-signed : {A : Type 0} {z : ℤ} {next : ℕ} → S.Wrong ≡ S.Value z next → A
+wrong-is-no-signed e = absurd (let z : _≡_ {A = ℕ} 0 1 = cc in omega arith)
+
+-- a minus that is there, within the file
+minus-stands : (s : List ℕ) (at : ℕ) → getD s at 0 ≡ minus → Stands s at (minus ∷ []) (at + 1)
+minus-stands s at m =
+    cases (le-or (length s) at)
+    (λ past. absurd (let z : _≡_ {A = ℕ} 0 minus = sym (List·getD-eq-default s 0 {n = at} past) ∙ m in omega arith))
+    (λ h. stands s at (minus ∷ []) (drop (suc at) s) (drop-cons s at 0 h ∙ rw m))
+
+-- where a number is read, none stands
+no-minus : (stop : ℕ) (s : List ℕ) (at v next : ℕ) → numberAt stop s at ≡ Value v next → getD s at 0 ≡ minus → ⊥
+no-minus stop s at v next e m =
+    cases (le-or (length s) at)
+    (λ past. wrong-is-no-value (sym (number-end stop s at past) ∙ e))
+    (λ h. wrong-is-no-value (sym (number-start stop s at h ∙ rw m) ∙ e))
+
+after-zero : (v : ℕ) → eqb (suc v) 0 ≡ false
+after-zero v = ne-eqb (suc v) 0 (λ e. omega arith)
+
+module _ (stop : ℕ) (low : stop < 48) (s : List ℕ) (at : ℕ) (z : ℤ) (next : ℕ) where
+  signed-sound : signedAt stop s at ≡ S.Value z next → InRange z × Stands s at (signedField stop z) next
+  signed-sound e =
+      either (eqb (getD s at 0) minus)
+      (λ t.
+      let m : getD s at 0 ≡ minus = eqb-true (getD s at 0) minus t in
+      negative (minus-stands s at m) (numberAt stop s (at + 1)) refl (sym (signed-minus stop s at m) ∙ e))
+      (λ f. plain (numberAt stop s at) refl (sym (signed-other stop s at (eqb-false (getD s at 0) minus f)) ∙ e))
+    where
+      plain : (r : Number) → numberAt stop s at ≡ r → onNumber r S.Wrong (λ v i. S.Value (pos v) i) ≡ S.Value z next
+          → InRange z × Stands s at (signedField stop z) next
+      plain (Value v i) is e =
+          let same : pos v ≡ z = cc in
+          let ends : i ≡ next = cc in
+          rw (← same, ← ends) (number-read stop low s at v i .0 is)
+      plain Wrong is e = wrong-is-no-signed e
+
+      negative : Stands s at (minus ∷ []) (at + 1) → (r : Number) → numberAt stop s (at + 1) ≡ r
+          → onNumber r S.Wrong (λ v i. cond (eqb v 0) S.Wrong (S.Value (negℤ (pos v)) i)) ≡ S.Value z next
+          → InRange z × Stands s at (signedField stop z) next
+      negative m (Value zero i) is e = wrong-is-no-signed e
+      negative m (Value (suc v) i) is e =
+          let e′ : S.Value (negsuc v) i ≡ S.Value z next = rw (after-zero v) at e in
+          let same : negsuc v ≡ z = cc in
+          let ends : i ≡ next = cc in
+          let w : (suc v ≤ numberMost) × Stands s (at + 1) (numberText stop (suc v)) i = number-read stop low s (at + 1) (suc v) i .0 is in
+          rw (← same, ← ends) (w .0, stands-then m (w .1))
+      negative m Wrong is e = wrong-is-no-signed e
+
+signed-complete : (stop : ℕ) → stop < 48 → (s : List ℕ) (at : ℕ) (z : ℤ) (next : ℕ) → InRange z → Stands s at (signedField stop z) next
+    → signedAt stop s at ≡ S.Value z next
+signed-complete stop low s at (pos v) next fits t =
+    let is : numberAt stop s at ≡ Value v next = number-read stop low s at v next .1 (fits, t) in
+    signed-other stop s at (no-minus stop s at v next is) ∙ rw is
+signed-complete stop low s at (negsuc v) next fits t =
+    signed-minus stop s at (stands-byte t)
+    ∙ rw (number-read stop low s (at + 1) (suc v) next .1 (fits, stands-behind (minus ∷ []) (numberText stop (suc v)) t), after-zero v)
+
+pub signed-read : (stop : ℕ) → stop < 48 → (s : List ℕ) (at : ℕ) (z : ℤ) (next : ℕ)
+    → (signedAt stop s at ≡ S.Value z next) ↔ (InRange z × Stands s at (signedField stop z) next)
+signed-read stop low s at z next = (signed-sound stop low s at z next, λ w. signed-complete stop low s at z next (w .0) (w .1))

@@ -1,11 +1,11 @@
 -- Where a text stands in a file, and where it ends.
 use Prim.Native.Nat.{ℕ, _+_, _≤_}
 use mathlib.Core.Path.{_≡_, refl, sym, _∙_}
-use mathlib.Core.List.{List, [], _++_, append-nil, append-assoc}
+use mathlib.Core.List.{List, [], _∷_, _++_, append-nil, append-assoc}
 use native.Mathlib.Nat.{add-zero}
 use native.Mathlib.Omega.{arith}
-use lib.ListN.{length, drop, length-append, drop-of-length-le}
-use lib.Seq.{drop-drop, drop-append-seam}
+use lib.ListN.{length, drop, getD, length-append, drop-of-length-le}
+use lib.Seq.{drop-drop, drop-append-seam, getD-drop}
 
 pub record Stands (file : List ℕ) (at : ℕ) (text : List ℕ) (next : ℕ) : Type 0 where
   pub here : drop at file ≡ text ++ drop next file
@@ -44,6 +44,12 @@ stands-as e p = rw e at p
 
 pub stands-to : {s t : List ℕ} {i j k : ℕ} → Stands s i t j → j ≡ k → Stands s i t k
 stands-to p e = rw e at p
+
+-- its first byte
+pub stands-byte : {s t : List ℕ} {i k b : ℕ} → Stands s i (b ∷ t) k → getD s i 0 ≡ b
+stands-byte {s} {t} {i} {k} {b} p =
+    let is : getD s (i + 0) 0 ≡ b = sym (getD-drop i s 0 0) ∙ rw (p .here) in
+    rw (add-zero i) at is
 
 -- with nothing after it
 pub stands-all : {s t : List ℕ} {k : ℕ} → Stands s 0 t k → length s ≤ k → t ≡ s

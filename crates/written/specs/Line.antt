@@ -1,13 +1,13 @@
--- An object line and a call line as they are read; proofs/Line and Calls tie them to their text. Source: document 01, "The run file and its program".
+-- An object line and a call line as they are read; proofs/Line and Calls tie them to their text. Source: document 01, "The run file and its program", and request Q-1.
 use Prim.Native.Nat.{ℕ, _+_}
 use Prim.Native.Char.{code}
 use mathlib.Core.List.{List}
 use mathlib.Core.Bool.{Bool, cond, _||_}
 use lib.ListN.{getD}
-use lib.IntN.{pos}
 use lib.Dec.{eqb}
 use Rattle.text.specs.Text.{space, lineEnd}
 use Rattle.text.specs.Number.{numberAt, onNumber}
+use Rattle.text.specs.Signed.{signedAt, onSigned}
 use Rattle.written.specs.declared.Call.the-variants.{Plain, Access, Respond, Commit, Abort}
 use Rattle.written.specs.declared.CallLine.{CallLine}
 use Rattle.written.specs.declared.CallLine.the-variants as C
@@ -19,13 +19,13 @@ unfoldable pub letterAt : List ℕ → ℕ → ℕ
 letterAt file at = cond (eqb (getD file (at + 1) 0) space) (getD file at 0) 0
 
 abbrev pub isKind : ℕ → Bool
-isKind letter = eqb letter (code "A") || eqb letter (code "R")
+isKind letter = eqb letter (code "A") || eqb letter (code "R") || eqb letter (code "K")
 
 -- a kind and its opening
 abbrev pub objectAt : List ℕ → ℕ → ObjectLine
 objectAt file at =
     cond (isKind (letterAt file at))
-    (onNumber (numberAt lineEnd file (at + 2)) O.Wrong (λ opening next. O.Object (letterAt file at) (pos opening) next))
+    (onSigned (signedAt lineEnd file (at + 2)) O.Wrong (λ opening next. O.Object (letterAt file at) opening next))
     O.Wrong
 
 -- a call of one number
@@ -42,8 +42,8 @@ accessAt file at =
     onNumber (numberAt space file at) C.Wrong
     (λ parent i. onNumber (numberAt space file i) C.Wrong
     (λ object j. onNumber (numberAt space file j) C.Wrong
-    (λ operation k. onNumber (numberAt lineEnd file k) C.Wrong
-    (λ argument next. C.Call (Access parent object operation (pos argument)) next))))
+    (λ operation k. onSigned (signedAt lineEnd file k) C.Wrong
+    (λ argument next. C.Call (Access parent object operation argument) next))))
 
 abbrev pub callAt : List ℕ → ℕ → CallLine
 callAt file at =

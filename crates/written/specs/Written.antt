@@ -1,4 +1,4 @@
--- The run file as it is written, and the first wrong line of any other file. Source: document 01, "The run file and its program". `RunFile` sets
+-- The run file as it is written, and the first wrong line of any other file. Source: document 01, "The run file and its program", and request Q-1. `RunFile` sets
 -- no limit of bytes: `Prints` (crates/output/specs/Output.antt) does, since a file too long is line 0 whatever its lines are.
 use Prim.Native.Nat.{ℕ, _-_, _≤_}
 use Prim.Native.Char.{code}
@@ -7,7 +7,7 @@ use mathlib.Core.Logic.{_⊎_}
 use mathlib.Core.List.{List, [], _∷_, _++_}
 use mathlib.Core.Bool.{cond}
 use lib.ListN.{length}
-use lib.IntN.{ℤ, pos, negsuc}
+use lib.IntN.{ℤ, pos, natAbs}
 use lib.Dec.{eqb}
 use Rattle.text.specs.Text.{lineEnd, space, decimal, signedText, numberMost}
 use Rattle.written.specs.declared.Call.{Call}
@@ -75,14 +75,13 @@ abbrev pub Each : {A : Type 0} → (A → Type 0) → List A → Type 0
 Each P [] = Unit {0}
 Each P (x ∷ xs) = P x × Each P xs
 
--- from 0 to the largest number of a file
+-- at most the largest number of a file; a minus (request Q-1), which stands only before an opening or an argument, down to its negative
 abbrev pub InRange : ℤ → Type 0
-InRange (pos n) = n ≤ numberMost
-InRange (negsuc n) = ⊥
+InRange z = natAbs z ≤ numberMost
 
--- A, an account, or R, a register
+-- A, an account, R, a register, or K, a counter
 abbrev pub KindLetter : ℕ → Type 0
-KindLetter letter = (letter ≡ code "A") ⊎ (letter ≡ code "R")
+KindLetter letter = (letter ≡ code "A") ⊎ (letter ≡ code "R") ⊎ (letter ≡ code "K")
 
 abbrev pub ObjectFits : Object → Type 0
 ObjectFits o = KindLetter (o .letter) × InRange (o .opening)

@@ -1,4 +1,5 @@
 use mathlib.Core.Path.{ap, _∙_}
+use lib.IntN.{pos}
 use mir.Facts.{toZ-ofZ}
 use borrow.Author.Tests.{ne-eqb}
 use Rattle.kinds.specs.Outcome.{withValue, withoutValue}
@@ -32,7 +33,7 @@ without-value-requires-3 c κs = search needs
 returns : tie.Need-returns
 returns c =
     rw (c .before .before .enum-told .given .1, c .before .match2 .keys1)
-    (c .with-value .ensures ∙ ap (λ b. withValue b 0 balanceMost) (toZ-ofZ (c .before .before .before .before .fits .b)))
+    (c .with-value .ensures ∙ ap (λ b. withValue b (pos 0) (pos balanceMost)) (toZ-ofZ (c .before .before .before .before .fits .b)))
 
 returns-2 : tie.Need-returns-2
 returns-2 c = rw (c .before .enum-told .given .1, ne-eqb _ _ (c .match2 .rest .1))

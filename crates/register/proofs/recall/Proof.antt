@@ -1,4 +1,5 @@
 use mathlib.Core.Path.{ap, _∙_}
+use lib.IntN.{pos}
 use mir.Facts.{toZ-ofZ}
 use borrow.Author.Tests.{ne-eqb}
 use Rattle.kinds.specs.Outcome.{withValue, withoutValue}
@@ -10,6 +11,12 @@ use Rattle.register.proofs.recall.Tie as tie
 
 enum-told : tie.Need-enum-told
 enum-told c = search needs
+
+cast-with-value : tie.Need-cast-with-value
+cast-with-value c = search needs
+
+cast-with-value-2 : tie.Need-cast-with-value-2
+cast-with-value-2 c = search needs
 
 with-value-requires : tie.Need-with-value-requires
 with-value-requires c κs = search needs
@@ -23,7 +30,7 @@ without-value-requires c κs = search needs
 returns : tie.Need-returns
 returns c =
     rw (c .before .before .enum-told .given .1, c .before .match2 .keys1)
-    (c .with-value .ensures ∙ ap (λ b. withValue b 0 valueMost) (toZ-ofZ (c .before .before .before .before .fits .b)))
+    (c .with-value .ensures ∙ ap (λ b. withValue b (pos 0) (pos valueMost)) (toZ-ofZ (c .before .before .before .before .fits .b)))
 
 returns-2 : tie.Need-returns-2
 returns-2 c = rw (c .before .enum-told .given .1, ne-eqb _ _ (c .match2 .rest .1))
@@ -41,6 +48,8 @@ recall-spec =
     tie.close
     (tie.spec
     enum-told
+    cast-with-value
+    cast-with-value-2
     with-value-requires
     enum-told-2
     without-value-requires

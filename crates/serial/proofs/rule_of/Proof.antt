@@ -1,4 +1,4 @@
-use Rattle.kinds.specs.Kinds.{entry}
+use Rattle.kinds.specs.Table.{entry}
 use borrow.Author.Needs.{needs}
 use Rattle.serial.proofs.rule_of.Statement.{statement}
 use Rattle.serial.proofs.rule_of.Tie as tie
@@ -18,6 +18,12 @@ rule-of-requires-2 c κs = search needs
 enum-told-3 : tie.Need-enum-told-3
 enum-told-3 c = search needs
 
+rule-of-requires-3 : tie.Need-rule-of-requires-3
+rule-of-requires-3 c κs = search needs
+
+enum-told-4 : tie.Need-enum-told-4
+enum-told-4 c = search needs
+
 returns : tie.Need-returns
 returns c = rw (c .before .enum-told .given .1) (c .rule-of .ensures)
 
@@ -25,8 +31,11 @@ returns-2 : tie.Need-returns-2
 returns-2 c = rw (c .before .enum-told2 .given .1) (c .rule-of2 .ensures)
 
 returns-3 : tie.Need-returns-3
+returns-3 c = rw (c .before .enum-told3 .given .1) (c .rule-of3 .ensures)
+
+returns-4 : tie.Need-returns-4
 unfolding entry
-returns-3 c = rw (c .enum-told3 .given .1)
+returns-4 c = rw (c .enum-told4 .given .1)
 
 pub rule-of-spec : {M : Type 1} → statement M
 rule-of-spec =
@@ -37,6 +46,9 @@ rule-of-spec =
     enum-told-2
     rule-of-requires-2
     enum-told-3
+    rule-of-requires-3
+    enum-told-4
     returns
     returns-2
-    returns-3)
+    returns-3
+    returns-4)

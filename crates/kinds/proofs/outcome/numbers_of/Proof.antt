@@ -1,7 +1,6 @@
-use Prim.Native.Nat.{_<_, _^_}
-use native.Mathlib.Omega.{arith}
 use mir.Syntax.{w64}
-use mir.ValLaws.{toZ-pos}
+use mir.Val.{SFits}
+use mir.Facts.{toZ-ofZ}
 use borrow.Author.Needs.{needs}
 use Rattle.kinds.proofs.outcome.numbers_of.Statement.{statement}
 use Rattle.kinds.proofs.outcome.numbers_of.Tie as tie
@@ -21,9 +20,6 @@ cast-t5 c = search needs
 enum-known-outcome : tie.Need-enum-known-outcome
 enum-known-outcome c = search needs
 
-cast-t6 : tie.Need-cast-t6
-cast-t6 c = search needs
-
 returns : tie.Need-returns
 returns c = rw (c .enum-told .given .1)
 
@@ -32,20 +28,10 @@ returns-2 c = rw (c .enum-told2 .given .1)
 
 returns-3 : tie.Need-returns-3
 returns-3 c =
-    let v = c .before .outcome .given .0 .0 in
-    let small : v < 2 ^ 63 = omega (arith, c .known-told .given) in
-    rw (c .before .outcome .given .1, toZ-pos w64 v small)
+    let fits : SFits w64 (c .before .outcome .given .0 .0) = record { sfits = c .known-told .given .0 .1 } in
+    rw (c .before .outcome .given .1, toZ-ofZ {w = w64} fits)
 
 pub numbers-of-spec : {M : Type 1} → statement M
 numbers-of-spec =
     tie.close
-    (tie.spec
-    enum-told
-    cast-t4
-    enum-told-2
-    cast-t5
-    enum-known-outcome
-    cast-t6
-    returns
-    returns-2
-    returns-3)
+    (tie.spec enum-told cast-t4 enum-told-2 cast-t5 enum-known-outcome returns returns-2 returns-3)

@@ -1,28 +1,36 @@
-use Rattle.kinds.proofs.Within.{told-in, told-out}
+use mathlib.Core.Bool.{false}
+use mathlib.Core.Path.{_≡_}
+use lib.Signed.{ltZ}
+use mir.Syntax.{w64}
+use mir.Facts.{toZ-ofZ}
 use Rattle.kinds.specs.declared.outcome.Recalled.the-variants.{Given, Unshaped}
 use Rattle.kinds.specs.declared.outcome.Outcome.the-variants.{Value}
-use borrow.Author.Needs.{needs}
+use Rattle.kinds.proofs.Within.{out-low, out-high, in-range}
 use Rattle.kinds.proofs.outcome.with_value.Statement.{statement}
 use Rattle.kinds.proofs.outcome.with_value.Tie as tie
 
-within-requires : tie.Need-within-requires
-within-requires c κs = search needs
-
-enum-known-v : tie.Need-enum-known-v
-enum-known-v c = search needs
-
-enum-told : tie.Need-enum-told
-enum-told c = search needs
-
 returns : tie.Need-returns
 returns c =
-    let a = c .before .before .before .before .args in
-    told-in (λ v. Given (Value v)) Unshaped (a .low) (a .high) (c .before .before .before .within .ensures) (c .before .before .before .before .fits .b) (c .before .v .given .1)
+    let a = c .before .args in
+    let f = c .before .fits in
+    out-low (λ v. Given (Value v)) Unshaped (a .b) (a .low) (a .high) (rw (toZ-ofZ {w = w64} (f .b), toZ-ofZ {w = w64} (f .low)) at (c .if1 .taken))
+
+not-below : (c : tie.Else1) → ltZ (c .before .args .b) (c .before .args .low) ≡ false
+not-below c = rw (toZ-ofZ {w = w64} (c .before .fits .b), toZ-ofZ {w = w64} (c .before .fits .low)) at (c .if1 .left)
 
 returns-2 : tie.Need-returns-2
 returns-2 c =
-    let a = c .before .before .before .args in
-    told-out (λ v. Given (Value v)) Unshaped (a .low) (a .high) (c .before .before .within .ensures) (c .before .before .before .fits .b) (c .enum-told .given .1)
+    let a = c .before .before .args in
+    let f = c .before .before .fits in
+    out-high (λ v. Given (Value v)) Unshaped (a .b) (a .low) (a .high) (not-below (c .before))
+    (rw (toZ-ofZ {w = w64} (f .b), toZ-ofZ {w = w64} (f .high)) at (c .if2 .taken))
+
+returns-3 : tie.Need-returns-3
+returns-3 c =
+    let a = c .before .before .args in
+    let f = c .before .before .fits in
+    let not-above : ltZ (a .high) (a .b) ≡ false = rw (toZ-ofZ {w = w64} (f .b), toZ-ofZ {w = w64} (f .high)) at (c .if2 .left) in
+    rw (toZ-ofZ {w = w64} (f .b)) (in-range (λ v. Given (Value v)) Unshaped (a .b) (a .low) (a .high) (not-below (c .before)) not-above)
 
 pub with-value-spec : {M : Type 1} → statement M
-with-value-spec = tie.close (tie.spec within-requires enum-known-v enum-told returns returns-2)
+with-value-spec = tie.close (tie.spec returns returns-2 returns-3)

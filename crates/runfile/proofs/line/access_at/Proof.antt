@@ -1,4 +1,5 @@
 use mathlib.Core.Path.{_∙_, sym}
+use mir.Val.{SFits}
 use mir.ValLaws.{toZ-ofZ}
 use mir.Syntax.{w64}
 use borrow.Author.Needs.{needs}
@@ -44,8 +45,8 @@ returns-3 c = let j = c .before .before .before .before in
     let i = j .before .before .before .before in
     simp (sym (i .before .before .number-at .ensures) ∙ i .parent .given .1, sym (j .before .before .number-at2 .ensures) ∙ j .object .given .1, sym (c .before .before .number-at3 .ensures) ∙ c .enum-told3 .given .1)
 
-number-at-requires-4 : tie.Need-number-at-requires-4
-number-at-requires-4 c κs = search needs
+signed-at-requires : tie.Need-signed-at-requires
+signed-at-requires c κs = search needs
 
 enum-known-argument : tie.Need-enum-known-argument
 enum-known-argument c = search needs
@@ -57,17 +58,16 @@ returns-4 : tie.Need-returns-4
 returns-4 c = let k = c .before .before .before .before in
     let j = k .before .before .before .before in
     let i = j .before .before .before .before in
-    simp (sym (i .before .before .number-at .ensures) ∙ i .parent .given .1, sym (j .before .before .number-at2 .ensures) ∙ j .object .given .1, sym (k .before .before .number-at3 .ensures) ∙ k .operation .given .1, sym (c .before .before .number-at4 .ensures) ∙ c .enum-told4 .given .1)
-
-signed-requires : tie.Need-signed-requires
-signed-requires c κs = search needs
+    simp (sym (i .before .before .number-at .ensures) ∙ i .parent .given .1, sym (j .before .before .number-at2 .ensures) ∙ j .object .given .1, sym (k .before .before .number-at3 .ensures) ∙ k .operation .given .1, sym (c .before .before .signed-at .ensures) ∙ c .enum-told4 .given .1)
 
 returns-5 : tie.Need-returns-5
-returns-5 c = let l = c .before .before in
+returns-5 c = let l = c .before in
     let k = l .before .before .before .before in
     let j = k .before .before .before .before in
     let i = j .before .before .before .before in
-    simp (toZ-ofZ w64 (c .signed .result) (record { sfits = c .signed .ok }) ∙ c .signed .ensures, sym (i .before .before .number-at .ensures) ∙ i .parent .given .1, sym (j .before .before .number-at2 .ensures) ∙ j .object .given .1, sym (k .before .before .number-at3 .ensures) ∙ k .operation .given .1, sym (l .before .before .number-at4 .ensures) ∙ l .argument .given .1)
+    let z = l .argument .given .0 .0 in
+    let fits : SFits w64 z = search needs in
+    simp (toZ-ofZ w64 z fits, sym (i .before .before .number-at .ensures) ∙ i .parent .given .1, sym (j .before .before .number-at2 .ensures) ∙ j .object .given .1, sym (k .before .before .number-at3 .ensures) ∙ k .operation .given .1, sym (l .before .before .signed-at .ensures) ∙ l .argument .given .1)
 
 pub access-at-spec : {M : Type 1} → statement M
 access-at-spec =
@@ -85,9 +85,8 @@ access-at-spec =
     enum-known-operation
     enum-told-3
     returns-3
-    number-at-requires-4
+    signed-at-requires
     enum-known-argument
     enum-told-4
     returns-4
-    signed-requires
     returns-5)

@@ -1,6 +1,7 @@
 use mathlib.Core.Path.{_≡_, _∙_, sym}
 use mathlib.Core.Bool.{true}
 use native.Mathlib.Omega.{arith}
+use mir.Val.{SFits}
 use mir.ValLaws.{toZ-ofZ}
 use mir.Syntax.{w64}
 use borrow.Author.Needs.{needs}
@@ -26,8 +27,8 @@ add-from : tie.Need-add-from
 add-from c = let a = c .before .before .before .before .args in
     omega (arith, letter-in (a .file .now) (a .at) (λ e. kind-not-zero _ (kind c) (c .before .before .letter-at .ensures ∙ e)))
 
-number-at-requires : tie.Need-number-at-requires
-number-at-requires c κs = search needs
+signed-at-requires : tie.Need-signed-at-requires
+signed-at-requires c κs = search needs
 
 enum-known-opening : tie.Need-enum-known-opening
 enum-known-opening c = search needs
@@ -37,15 +38,14 @@ enum-told c = search needs
 
 returns-2 : tie.Need-returns-2
 returns-2 c = let e = c .before .before .before in
-    simp (← e .before .before .letter-at .ensures, kind e, sym (c .before .before .number-at .ensures) ∙ c .enum-told .given .1)
-
-signed-requires : tie.Need-signed-requires
-signed-requires c κs = search needs
+    simp (← e .before .before .letter-at .ensures, kind e, sym (c .before .before .signed-at .ensures) ∙ c .enum-told .given .1)
 
 returns-3 : tie.Need-returns-3
-returns-3 c = let o = c .before .before in
+returns-3 c = let o = c .before in
     let e = o .before .before .before in
-    simp (toZ-ofZ w64 (c .signed .result) (record { sfits = c .signed .ok }) ∙ c .signed .ensures, ← e .before .before .letter-at .ensures, kind e, sym (o .before .before .number-at .ensures) ∙ o .opening .given .1)
+    let z = o .opening .given .0 .0 in
+    let fits : SFits w64 z = search needs in
+    simp (toZ-ofZ w64 z fits, ← e .before .before .letter-at .ensures, kind e, sym (o .before .before .signed-at .ensures) ∙ o .opening .given .1)
 
 pub object-at-spec : {M : Type 1} → statement M
 object-at-spec =
@@ -55,9 +55,8 @@ object-at-spec =
     is-kind-requires
     returns
     add-from
-    number-at-requires
+    signed-at-requires
     enum-known-opening
     enum-told
     returns-2
-    signed-requires
     returns-3)

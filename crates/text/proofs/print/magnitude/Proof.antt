@@ -2,12 +2,12 @@ use Prim.Native.Nat.{_-_, _^_, _≤_}
 use mathlib.Core.Path.{_≡_, _∙_, sym}
 use mathlib.Core.Bool.{true}
 use native.Mathlib.Omega.{arith}
-use lib.IntN.{pos, _+ℤ_, _-ℤ_}
+use lib.IntN.{pos, _+ℤ_, _-ℤ_, natAbs}
 use borrow.Author.Needs.{needs}
 use mir.Syntax.{w64}
 use mir.Val.{SFits, toZ, ofZ}
 use mir.ValLaws.{toZ-ofZ}
-use Rattle.text.specs.Sign.{sizeOf, isNegative}
+use Rattle.text.specs.Sign.{isNegative}
 use Rattle.text.proofs.Printing.{negative-test, up-fits, above-size, size-fits, size-some, plain-cast}
 use Rattle.text.proofs.print.magnitude.Statement.{statement}
 use Rattle.text.proofs.print.magnitude.Tie as tie
@@ -18,17 +18,17 @@ told c = toZ-ofZ w64 (c .args .z) (c .fits .z)
 below : (c : tie.Then1) → isNegative (c .before .args .z) ≡ true
 below c = sym (negative-test (c .before .args .z)) ∙ (rw (told (c .before)) at (c .if1 .taken))
 
-sized : (c : tie.Then1) → (1 ≤ sizeOf (c .before .args .z)) × (sizeOf (c .before .args .z) ≤ 2 ^ 63)
+sized : (c : tie.Then1) → (1 ≤ natAbs (c .before .args .z)) × (natAbs (c .before .args .z) ≤ 2 ^ 63)
 sized c = (size-some (c .before .args .z) (below c), size-fits (c .before .args .z) (c .before .fits .z))
 
-less-fits : (c : tie.Then1) → SFits w64 (pos (sizeOf (c .before .args .z) - 1))
+less-fits : (c : tie.Then1) → SFits w64 (pos (natAbs (c .before .args .z) - 1))
 less-fits c = record { sfits = omega (arith, sized c) }
 
 -- the code's steps: one more, the opposite of that
 inner : (c : tie.Then1) → toZ w64 (ofZ w64 (toZ w64 (ofZ w64 (c .before .args .z)) +ℤ pos 1)) ≡ c .before .args .z +ℤ pos 1
 inner c = rw (told (c .before), toZ-ofZ w64 (c .before .args .z +ℤ pos 1) (up-fits _ (below c) (c .before .fits .z)))
 
-outer : (c : tie.Then1) → toZ w64 (ofZ w64 (pos 0 -ℤ toZ w64 (ofZ w64 (toZ w64 (ofZ w64 (c .before .args .z)) +ℤ pos 1)))) ≡ pos (sizeOf (c .before .args .z) - 1)
+outer : (c : tie.Then1) → toZ w64 (ofZ w64 (pos 0 -ℤ toZ w64 (ofZ w64 (toZ w64 (ofZ w64 (c .before .args .z)) +ℤ pos 1)))) ≡ pos (natAbs (c .before .args .z) - 1)
 outer c = rw (inner c, above-size _ (below c)) (toZ-ofZ w64 _ (less-fits c))
 
 add-above : tie.Need-add-above

@@ -6,12 +6,13 @@ use borrow.Author.Needs.{needs}
 use mir.ValLaws.{toZ-ofZ}
 use mir.Syntax.{w64}
 use Rattle.text.specs.Text.{decimal, signedText, minus}
-use Rattle.text.specs.Sign.{sizeOf, isNegative}
+use lib.IntN.{natAbs}
+use Rattle.text.specs.Sign.{isNegative}
 use Rattle.text.proofs.Printing.{put-then, signed-negative, signed-plain}
 use Rattle.text.proofs.print.put_signed.Statement.{statement}
 use Rattle.text.proofs.print.put_signed.Tie as tie
 
-size-told : (c : tie.After-magnitude) → c .magnitude .result ≡ sizeOf (c .before .before .args .z)
+size-told : (c : tie.After-magnitude) → c .magnitude .result ≡ natAbs (c .before .before .args .z)
 size-told c = rw (toZ-ofZ w64 (c .before .before .args .z) (c .before .before .fits .z)) at (c .magnitude .ensures)
 
 sign-told : (c : tie.After-is-negative) → isNegative (c .before .before .before .args .z) ≡ c .is-negative .result

@@ -1,6 +1,6 @@
 use Rattle.kinds.specs.Account.{table}
 use Rattle.kinds.specs.declared.Kind.the-variants.{Account}
-use Rattle.kinds.proofs.Table.{sized, inside, past-row, past-rows}
+use Rattle.kinds.proofs.Entries.{sized, inside, past-row, past-rows}
 use borrow.Author.Needs.{needs}
 use Rattle.kinds.proofs.account.Account.rule_of.Statement.{statement}
 use Rattle.kinds.proofs.account.Account.rule_of.Tie as tie

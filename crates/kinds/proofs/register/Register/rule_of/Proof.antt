@@ -1,6 +1,6 @@
 use Rattle.kinds.specs.Register.{table}
 use Rattle.kinds.specs.declared.Kind.the-variants.{Register}
-use Rattle.kinds.proofs.Table.{sized, inside, past-row, past-rows}
+use Rattle.kinds.proofs.Entries.{sized, inside, past-row, past-rows}
 use borrow.Author.Needs.{needs}
 use Rattle.kinds.proofs.register.Register.rule_of.Statement.{statement}
 use Rattle.kinds.proofs.register.Register.rule_of.Tie as tie

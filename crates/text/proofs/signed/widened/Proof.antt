@@ -2,8 +2,8 @@ use native.Mathlib.Omega.{arith}
 use mir.ValLaws.{toZ-pos}
 use mir.Syntax.{w64}
 use borrow.Author.Needs.{needs}
-use Rattle.runfile.proofs.line.signed.Statement.{statement}
-use Rattle.runfile.proofs.line.signed.Tie as tie
+use Rattle.text.proofs.signed.widened.Statement.{statement}
+use Rattle.text.proofs.signed.widened.Tie as tie
 
 cast-result : tie.Need-cast-result
 cast-result c = search needs
@@ -11,5 +11,5 @@ cast-result c = search needs
 returns : tie.Need-returns
 returns c = toZ-pos w64 (c .args .v) (omega arith)
 
-pub signed-spec : {M : Type 1} → statement M
-signed-spec = tie.close (tie.spec cast-result returns)
+pub widened-spec : {M : Type 1} → statement M
+widened-spec = tie.close (tie.spec cast-result returns)

@@ -1,23 +1,26 @@
 -- A square table of rules, kept as rows: one test that antt computes over the whole table, and what it says at every row and column.
 use mathlib.Core.Path.{_≡_, refl, sym, ap, _∙_}
-use mathlib.Core.Bool.{Bool, true, false, _&&_, Bool·beq, and-eq-true-iff, true≢false, false≢true}
+use mathlib.Core.Bool.{Bool, true, false, _&&_, _||_, and-eq-true-iff, true≢false}
 use mathlib.Core.Logic.{⊎-elim}
 use mathlib.Core.List.{List, [], _∷_}
 use Prim.Native.Nat.{ℕ, zero, suc, _<_, _≤_}
 use native.Mathlib.Omega.{arith}
+use lib.IntN.{ℤ}
+use lib.Signed.{ltZ}
 use lib.Dec.{eqb}
 use lib.ListN.{length, getD, List·getD-eq-default}
 use borrow.Author.Tests.{eqb-true}
 use Rattle.below.specs.Below.{allBelow}
 use Rattle.below.proofs.Search.{all-at}
 use Rattle.below.proofs.Tests.{le-or}
-use Rattle.kinds.specs.Kinds.{tableOf, entry, judge, verdict}
+use Rattle.kinds.specs.Kinds.{tableOf}
+use Rattle.kinds.specs.Table.{entry, judge, verdict}
 use Rattle.kinds.specs.declared.Kind.{Kind}
-use Rattle.kinds.specs.declared.Kind.the-variants.{Account, Register, Unknown}
-use Rattle.kinds.specs.declared.Class.{Class}
-use Rattle.kinds.specs.declared.Class.the-variants.{Row, None}
-use Rattle.kinds.specs.declared.Rule.{Rule}
-use Rattle.kinds.specs.declared.Rule.the-variants.{Pass, Conflict}
+use Rattle.kinds.specs.declared.Kind.the-variants.{Account, Register, Counter, Unknown}
+use Rattle.kinds.specs.declared.table.Class.{Class}
+use Rattle.kinds.specs.declared.table.Class.the-variants.{Row, None}
+use Rattle.kinds.specs.declared.table.Rule.{Rule}
+use Rattle.kinds.specs.declared.table.Rule.the-variants.{Pass, Conflict, UnlessEqual}
 
 -- inside a list the default is of no account
 default-free : {A : Type 0} (l : List A) (k : ℕ) (d e : A) → k < length l → getD l k d ≡ getD l k e
@@ -32,12 +35,14 @@ square n rows = eqb (length rows) n && allBelow n (λ a. eqb (length (getD rows 
 abbrev pub size : Kind → ℕ
 size Account = 4
 size Register = 2
+size Counter = 2
 size Unknown = 0
 
 pub sized : (kind : Kind) → square (size kind) (tableOf kind) ≡ true
 unfolding allBelow
 sized Account = refl
 sized Register = refl
+sized Counter = refl
 sized Unknown = refl
 
 module _ (rows : List (List Rule)) (n : ℕ) (full : square n rows ≡ true) where
@@ -60,62 +65,96 @@ module _ (rows : List (List Rule)) (n : ℕ) (full : square n rows ≡ true) whe
   past-row a b hb =
       ⊎-elim (λ ha. past-rows a b ha) (λ ha. sym (List·getD-eq-default (getD rows a []) Conflict {n = b} (rw (row-length a ha) hb))) (le-or n a)
 
-pub no-row : (a : ℕ) → None ≡ Row a → ⊥
-no-row a e = let z : _≡_ {A = ℕ} 0 1 = cc in omega arith
+pub no-row : (a : ℕ) (k : ℤ) → None ≡ Row a k → ⊥
+no-row a k e = let z : _≡_ {A = ℕ} 0 1 = cc in omega arith
 
-pub same-row : (P : ℕ → Type 0) (b a : ℕ) → Row b ≡ Row a → P b → P a
-same-row P b a e h = let q : b ≡ a = cc in rw q at h
+pub same-row : (P : ℕ → ℤ → Type 0) (b a : ℕ) (l k : ℤ) → Row b l ≡ Row a k → P b l → P a k
+same-row P b a l k e h =
+    let q : b ≡ a = cc in
+    let r : l ≡ k = cc in
+    rw (q, r) at h
 
--- a rule as a number, for arithmetic to read
-abbrev pub weight : Rule → ℕ
-weight Pass = 0
-weight Conflict = 1
+-- a judgement as a number, for arithmetic to read
+abbrev pub weight : Bool → ℕ
+weight false = 0
+weight true = 1
 
 -- what passes has a row and a column, and a pass there
 pub record Passed (rows : List (List Rule)) (c d : Class) : Type 0 where
   pub row : ℕ
   pub column : ℕ
-  pub is-row : c ≡ Row row
-  pub is-column : d ≡ Row column
-  pub is-pass : weight (entry rows row column) ≡ 0
-
-weigh : (r : Rule) → judge r ≡ false → weight r ≡ 0
-weigh Pass e = refl
-weigh Conflict e = absurd (true≢false e)
+  pub row-key : ℤ
+  pub column-key : ℤ
+  pub is-row : c ≡ Row row row-key
+  pub is-column : d ≡ Row column column-key
+  pub is-pass : weight (judge (entry rows row column) row-key column-key) ≡ 0
 
 pub passed : (rows : List (List Rule)) (c d : Class) → verdict rows c d ≡ false → Passed rows c d
-passed rows (Row a) (Row b) e = record { row = a; column = b; is-row = refl; is-column = refl; is-pass = weigh (entry rows a b) e }
-passed rows (Row a) None e = absurd (true≢false e)
+passed rows (Row a k) (Row b l) e =
+    record { row = a; column = b; row-key = k; column-key = l; is-row = refl; is-column = refl; is-pass = ap weight e }
+passed rows (Row a k) None e = absurd (true≢false e)
 passed rows None d e = absurd (true≢false e)
+
+-- the rule seen from the other side
+abbrev turned : Rule → Rule
+turned Pass = Pass
+turned Conflict = Conflict
+turned UnlessEqual = UnlessEqual
+
+or-sym : (a b : Bool) → (a || b) ≡ (b || a)
+or-sym true true = refl
+or-sym true false = refl
+or-sym false true = refl
+or-sym false false = refl
+
+turned-judges : (r : Rule) (k l : ℤ) → judge (turned r) k l ≡ judge r l k
+turned-judges Pass k l = refl
+turned-judges Conflict k l = refl
+turned-judges UnlessEqual k l = or-sym (ltZ k l) (ltZ l k)
+
+-- a rule as a number, and back
+abbrev number : Rule → ℕ
+number Pass = 0
+number Conflict = 1
+number UnlessEqual = 2
+
+abbrev named : ℕ → Rule
+named zero = Pass
+named (suc zero) = Conflict
+named (suc (suc n)) = UnlessEqual
+
+named-number : (r : Rule) → named (number r) ≡ r
+named-number Pass = refl
+named-number Conflict = refl
+named-number UnlessEqual = refl
+
+same-number : (q r : Rule) → eqb (number q) (number r) ≡ true → q ≡ r
+same-number q r e = sym (named-number q) ∙ ap named {x = number q} {y = number r} (eqb-true (number q) (number r) e) ∙ named-number r
 
 -- the rows are the columns
 abbrev pub mirrored : ℕ → List (List Rule) → Bool
-mirrored n rows = allBelow n (λ a. allBelow n (λ b. Bool·beq (judge (entry rows a b)) (judge (entry rows b a))))
-
-same-bool : (a b : Bool) → Bool·beq a b ≡ true → a ≡ b
-same-bool true true e = refl
-same-bool true false e = absurd (false≢true e)
-same-bool false true e = absurd (false≢true e)
-same-bool false false e = refl
+mirrored n rows = allBelow n (λ a. allBelow n (λ b. eqb (number (entry rows a b)) (number (turned (entry rows b a)))))
 
 module _ (rows : List (List Rule)) (n : ℕ) (full : square n rows ≡ true) (mirror : mirrored n rows ≡ true) where
-  entry-sym : (a b : ℕ) → judge (entry rows a b) ≡ judge (entry rows b a)
-  entry-sym a b =
+  entry-turned : (a b : ℕ) → entry rows a b ≡ turned (entry rows b a)
+  entry-turned a b =
       ⊎-elim
-      (λ ha. sym (ap judge (past-rows rows n full a b ha)) ∙ ap judge (past-row rows n full b a ha))
+      (λ ha. sym (past-rows rows n full a b ha) ∙ ap turned (past-row rows n full b a ha))
       (λ ha. ⊎-elim
-      (λ hb. sym (ap judge (past-row rows n full a b hb)) ∙ ap judge (past-rows rows n full b a hb))
-      (λ hb. same-bool _ _ (all-at _ n b (all-at _ n a mirror ha) hb)) (le-or n b))
+      (λ hb. sym (past-row rows n full a b hb) ∙ ap turned (past-rows rows n full b a hb))
+      (λ hb. same-number (entry rows a b) (turned (entry rows b a)) (all-at _ n b (all-at _ n a mirror ha) hb))
+      (le-or n b))
       (le-or n a)
 
   pub verdict-sym : (c d : Class) → verdict rows c d ≡ verdict rows d c
-  verdict-sym (Row a) (Row b) = entry-sym a b
-  verdict-sym (Row a) None = refl
-  verdict-sym None (Row b) = refl
+  verdict-sym (Row a k) (Row b l) = ap (λ r. judge r k l) (entry-turned a b) ∙ turned-judges (entry rows b a) k l
+  verdict-sym (Row a k) None = refl
+  verdict-sym None (Row b l) = refl
   verdict-sym None None = refl
 
 pub mirror : (kind : Kind) → mirrored (size kind) (tableOf kind) ≡ true
 unfolding allBelow entry
 mirror Account = refl
 mirror Register = refl
+mirror Counter = refl
 mirror Unknown = refl

@@ -1,0 +1,109 @@
+use mir.Syntax.{w64}
+use mir.Val.{SFits}
+use mir.Facts.{toZ-ofZ}
+use borrow.Author.Needs.{needs}
+use Rattle.account.proofs.class_of.Statement.{statement}
+use Rattle.account.proofs.class_of.Tie as tie
+
+enum-told : tie.Need-enum-told
+enum-told c = search needs
+
+enum-known-outcome : tie.Need-enum-known-outcome
+enum-known-outcome c = search needs
+
+enum-told-2 : tie.Need-enum-told-2
+enum-told-2 c = search needs
+
+enum-told-3 : tie.Need-enum-told-3
+enum-told-3 c = search needs
+
+enum-known-operation : tie.Need-enum-known-operation
+enum-known-operation c = search needs
+
+enum-told-4 : tie.Need-enum-told-4
+enum-told-4 c = search needs
+
+cast-t9 : tie.Need-cast-t9
+cast-t9 c = search needs
+
+enum-told-5 : tie.Need-enum-told-5
+enum-told-5 c = search needs
+
+enum-told-6 : tie.Need-enum-told-6
+enum-told-6 c = search needs
+
+enum-known-operation-2 : tie.Need-enum-known-operation-2
+enum-known-operation-2 c = search needs
+
+enum-told-7 : tie.Need-enum-told-7
+enum-told-7 c = search needs
+
+cast-t11 : tie.Need-cast-t11
+cast-t11 c = search needs
+
+enum-told-8 : tie.Need-enum-told-8
+enum-told-8 c = search needs
+
+cast-t12 : tie.Need-cast-t12
+cast-t12 c = search needs
+
+enum-told-9 : tie.Need-enum-told-9
+enum-told-9 c = search needs
+
+returns : tie.Need-returns
+returns c =
+    let fits : SFits w64 (c .before .outcome .given .0 .0) = record { sfits = c .known-told .given .0 .1 } in
+    rw (c .before .before .before .enum-told .given .1, c .before .outcome .given .1, toZ-ofZ fits)
+
+returns-2 : tie.Need-returns-2
+returns-2 c = search needs
+
+returns-3 : tie.Need-returns-3
+returns-3 c = search needs
+
+returns-4 : tie.Need-returns-4
+returns-4 c = rw (c .before .before .before .operation .given .1, c .enum-told4 .given .1, toZ-ofZ (cast-t9 c))
+
+returns-5 : tie.Need-returns-5
+returns-5 c = search needs
+
+returns-6 : tie.Need-returns-6
+returns-6 c = search needs
+
+returns-7 : tie.Need-returns-7
+returns-7 c = rw (c .before .before .before .operation2 .given .1, c .enum-told7 .given .1, toZ-ofZ (cast-t11 c))
+
+returns-8 : tie.Need-returns-8
+returns-8 c = rw (c .before .before .before .operation2 .given .1, c .enum-told8 .given .1, toZ-ofZ (cast-t12 c))
+
+returns-9 : tie.Need-returns-9
+returns-9 c = search needs
+
+pub class-of-spec : {M : Type 1} → statement M
+class-of-spec =
+    tie.close
+    (tie.spec
+    enum-told
+    enum-known-outcome
+    enum-told-2
+    enum-told-3
+    enum-known-operation
+    enum-told-4
+    cast-t9
+    enum-told-5
+    enum-told-6
+    enum-known-operation-2
+    enum-told-7
+    cast-t11
+    enum-told-8
+    cast-t12
+    enum-told-9
+    returns
+    returns-2
+    returns-3
+    returns-4
+    returns-5
+    returns-6
+    returns-7
+    returns-8
+    returns-9)

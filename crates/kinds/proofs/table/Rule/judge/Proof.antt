@@ -1,0 +1,28 @@
+use borrow.Author.Needs.{needs}
+use Rattle.kinds.proofs.Keys.{unequal}
+use Rattle.kinds.proofs.table.Rule.judge.Statement.{statement}
+use Rattle.kinds.proofs.table.Rule.judge.Tie as tie
+
+enum-told : tie.Need-enum-told
+enum-told c = search needs
+
+enum-told-2 : tie.Need-enum-told-2
+enum-told-2 c = search needs
+
+enum-told-3 : tie.Need-enum-told-3
+enum-told-3 c = search needs
+
+returns : tie.Need-returns
+returns c = search needs
+
+returns-2 : tie.Need-returns-2
+returns-2 c = search needs
+
+returns-3 : tie.Need-returns-3
+returns-3 c =
+    let a = c .before .before .args in
+    let f = c .before .before .fits in
+    rw (c .enum-told3 .given .1) (unequal (a .asking) (a .held) (f .asking) (f .held))
+
+pub judge-spec : {M : Type 1} → statement M
+judge-spec = tie.close (tie.spec enum-told enum-told-2 enum-told-3 returns returns-2 returns-3)
