@@ -1,4 +1,4 @@
-"""A store as flat columns and as bytes, and the form rules of document 01.
+"""A store as flat columns and as bytes, and the form rules of document 01 and request Q-1.
 
 from_bytes and to_bytes turn 29,298 bytes into Columns and back.  broken_rule
 names the first form rule that columns break, each rule being one small
@@ -87,6 +87,7 @@ def to_bytes(columns):
 
 LARGEST_BALANCE = 2_024_000_000
 LARGEST_REGISTER = 1_000_000_000
+LARGEST_COUNT = 2_024_000_000  # and as far below 0
 STATES = {0: "open", 1: "committed", 2: "aborted"}
 FAIL, OK, VALUE = 1, 2, 3  # outcomes: the answer's a plus 1
 
@@ -97,6 +98,8 @@ RESULTS = {
     reading.WITHDRAW: {OK: (0, 0), FAIL: (0, 0)},
     reading.READ: {VALUE: (0, LARGEST_REGISTER)},
     reading.WRITE: {OK: (0, 0)},
+    reading.ADJUST: {OK: (0, 0)},
+    reading.COUNT: {VALUE: (-LARGEST_COUNT, LARGEST_COUNT)},
 }
 
 

@@ -1,4 +1,4 @@
-"""Holds the proved programs against the second reading of document 01.
+"""Holds the proved programs against the second reading of document 01 and request Q-1.
 
     compare.py FILES SEED      from the project's folder; tests/compare calls it
 
@@ -114,10 +114,11 @@ def some_work(c, chance):
     object = chance.randrange(min(c.objects, 64) or 1)
     operations = reading.OPERATIONS.get(columns.kind_of(c, object), reading.OPERATIONS["A"])
     operation = chance.choice(list(operations))
-    argument = chance.choice(operations[operation])
+    lowest, highest = operations[operation]
+    argument = chance.choice((lowest, (lowest + highest) // 2, highest))  # the middle of an adjustment is 0
     if chance.random() < 0.3:
         object = chance.choice((object, c.objects, c.objects + 1, 64, 256 + object, 2**32 - 1)) % 2**32
-        operation = chance.choice((operation, 0, 6, 256 + operation, 2**32 - 1))
+        operation = chance.choice((operation, chance.randrange(9), 256 + operation, 2**32 - 1))
         argument = chance.choice((argument, argument - 1, argument + 1, -(2**63), 2**63 - 1))
     return object, operation, argument
 

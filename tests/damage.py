@@ -4,7 +4,7 @@
     damage.py SEED < FILE      prints the file, damaged
 
 damaged(data, seed) makes one or a few changes to a file: in its bytes, its
-lines, its numbers or its length.  What comes out may still be a good file.
+lines, its numbers, their signs or its length.  What comes out may still be a good file.
 """
 
 import random
@@ -12,7 +12,7 @@ import re
 import sys
 
 LONGEST = 65_536
-STRAY_BYTES = [bytes([byte]) for byte in b"019 \n\r\t\0\x0b-+._ANu\x7f\x80\xa0\xb2\xff"]
+STRAY_BYTES = [bytes([byte]) for byte in b"019 \n\r\t\0\x0b-+._AKNu\x7f\x80\xa0\xb2\xff"]
 LIMIT_NUMBERS = [b"0", b"1", b"63", b"64", b"65", b"1024", b"1025", b"4096", b"4097", b"65536", b"1000000", b"1000001", b"1000000000", b"1000000001"]
 LARGE_NUMBERS = [b"2147483648", b"4294967295", b"4294967296", b"4294967297", b"9999999999", b"10000000000"]
 LARGE_NUMBERS += [b"18446744073709551616", b"9" * 40, b"0" * 12]
@@ -65,7 +65,7 @@ def letter_changed(data, chance):
         return data
     at = chance.choice(spots)
     letter = data[at:at + 1]
-    return data[:at] + chance.choice([letter.lower(), b"A", b"R", b"N", b"U", b"G", b"C", b"B", b"X", b"", letter * 2]) + data[at + 1:]
+    return data[:at] + chance.choice([letter.lower(), b"A", b"R", b"K", b"N", b"U", b"G", b"C", b"B", b"X", b"", letter * 2]) + data[at + 1:]
 
 
 # Lines.
@@ -124,9 +124,42 @@ def leading_zero(data, chance):
     return number_changed(data, chance, lambda digits: b"0" + digits)
 
 
-def sign_before(data, chance):
-    sign = chance.choice([b"-", b"+"])
-    return number_changed(data, chance, lambda digits: sign + digits)
+# What a number is -> the lines that have one, the number in brackets.
+PLACES = {
+    "count": rb"^(-?[0-9]+)$",
+    "opening": rb"^[ARK] (-?[0-9]+)$",
+    "parent": rb"^[NU] (-?[0-9]+)\b",
+    "object": rb"^U \S+ (-?[0-9]+)\b",
+    "operation": rb"^U \S+ \S+ (-?[0-9]+)\b",
+    "argument": rb"^U \S+ \S+ \S+ (-?[0-9]+)$",
+    "transaction": rb"^[GCB] (-?[0-9]+)$",
+}
+
+# Digits -> what to write in place of them and of the minus that may stand before.
+SIGNS = [
+    lambda digits: digits,
+    lambda digits: b"-" + digits,
+    lambda digits: b"--" + digits,
+    lambda digits: b"+" + digits,
+    lambda digits: b"-0" + digits,
+    lambda digits: b"- " + digits,
+    lambda digits: digits + b"-",
+    lambda digits: b"-",
+    lambda digits: b"-0",
+    lambda digits: b"-1000001",
+    lambda digits: b"-1000000001",
+    lambda digits: b"-4294967295",
+    lambda digits: b"-4294967296",
+]
+
+
+def sign_changed(data, chance):
+    """Puts, removes or doubles a minus, or puts a wrong one; at each kind of place as often as at any other."""
+    places = [found for place in PLACES.values() if (found := list(re.finditer(place, data, re.MULTILINE)))]
+    if not places:
+        return data
+    match = chance.choice(chance.choice(places))
+    return data[:match.start(1)] + chance.choice(SIGNS)(match.group(1).removeprefix(b"-")) + data[match.end(1):]
 
 
 def count_off_by_one(data, chance):
@@ -217,7 +250,7 @@ def filled(data, chance):
 CHANGES = [
     byte_changed, byte_of_any_value, byte_dropped, byte_doubled, byte_inserted, space_or_end_changed, letter_changed,
     line_dropped, line_doubled, lines_swapped, empty_line,
-    number_changed, leading_zero, sign_before, count_off_by_one, objects_at_limit, calls_at_limit,
+    number_changed, leading_zero, sign_changed, count_off_by_one, objects_at_limit, calls_at_limit,
     truncated, last_newline_missing, something_after, padded, filled,
 ]
 

@@ -97,13 +97,7 @@ class Maker:
 
     def work(self, object):
         """An operation and argument that fit the object."""
-        chance = self.chance
-        if self.objects[object][0] == "A":
-            operation = chance.choices((1, 2, 3), (2, 4, 4))[0]
-            amount = chance.choice((1, 5, chance.randint(1, 20), chance.randint(1, 300), chance.randint(1, 1_000_000), 1_000_000))
-            return operation, 0 if operation == 1 else amount
-        operation = chance.choice((4, 5))
-        return operation, 0 if operation == 4 else chance.choice((0, chance.randint(0, 99), chance.randint(0, 10**9), 10**9))
+        return WORK[self.objects[object][0]](self.chance)
 
     def object(self):
         return self.chance.randrange(len(self.objects))
@@ -129,6 +123,33 @@ def written(objects, lines):
     text = [str(len(objects)), *(f"{kind} {opening}" for kind, opening in objects), str(len(lines)), *lines]
     return ("\n".join(text) + "\n").encode("ascii")
 
+
+# -------------------------------------------------------------- work that fits
+
+
+def account_work(chance):
+    operation = chance.choices((1, 2, 3), (2, 4, 4))[0]
+    amount = chance.choice((1, 5, chance.randint(1, 20), chance.randint(1, 300), chance.randint(1, 1_000_000), 1_000_000))
+    return operation, 0 if operation == 1 else amount
+
+
+def register_work(chance):
+    operation = chance.choice((4, 5))
+    return operation, 0 if operation == 4 else chance.choice((0, chance.randint(0, 99), chance.randint(0, 10**9), 10**9))
+
+
+def counter_work(chance):
+    operation = chance.choices((6, 7), (3, 2))[0]
+    size = chance.choice((0, 0, 1, 3, chance.randint(1, 300), chance.randint(1, 1_000_000), 1_000_000))
+    return operation, 0 if operation == 7 else either_sign(chance, size)
+
+
+def either_sign(chance, size):
+    return chance.choice((size, -size))
+
+
+WORK = {"A": account_work, "R": register_work, "K": counter_work}
+LOOK = {"A": 1, "R": 4, "K": 7}  # the operation that answers what is there
 
 # --------------------------------------------------- calls likely to be refused
 
@@ -177,15 +198,25 @@ def beneath_aborted(m):
 def no_such_object(m):
     objects = len(m.objects)
     object = m.chance.choice((objects, objects + 1, 64, 255, 256, 65_536, 2**31, LARGEST))
-    return "U", m.parent(), max(object, objects), m.chance.randrange(7), m.chance.randrange(3)
+    return "U", m.parent(), max(object, objects), m.chance.randrange(9), m.chance.randrange(-2, 3)
+
+
+# Kind -> an operation of its own and an argument beyond the range.
+BEYOND = {
+    "A": [(1, -1), (1, 1), (1, LARGEST), (2, -1), (2, 0), (2, 1_000_001), (2, -LARGEST), (3, -1), (3, 0), (3, 1_000_001), (3, LARGEST)],
+    "R": [(4, -1), (4, 1), (4, -LARGEST), (5, -1), (5, -1_000_000_000), (5, 1_000_000_001), (5, LARGEST), (5, -LARGEST)],
+    "K": [(6, -1_000_001), (6, 1_000_001), (6, -LARGEST), (6, LARGEST), (6, 2**31), (6, -(2**31)), (7, -1), (7, 1), (7, -LARGEST)],
+}
+# Kind -> an operation and argument that fit it.
+FITTING = {"A": [(1, 0), (2, 3), (3, 3)], "R": [(4, 0), (5, 3)], "K": [(6, 0), (6, 3), (6, -3), (7, 0)]}
+UNKNOWN = [(0, 0), (8, 0), (8, -1), (255, 1), (256 + 1, 0), (65_536 + 4, 0), (LARGEST, 0), (LARGEST, -LARGEST)]
 
 
 def unfit_work(m):
     object = m.object()
-    limits = [(1, 1), (1, LARGEST), (2, 0), (2, 1_000_001), (3, 0), (3, 1_000_001), (3, LARGEST), (4, 1), (5, 1_000_000_001), (5, LARGEST)]
-    other_kind = [(4, 0), (5, 3)] if m.objects[object][0] == "A" else [(1, 0), (2, 3), (3, 3)]
-    unknown = [(0, 0), (6, 0), (255, 1), (256 + 1, 0), (65_536 + 4, 0), (LARGEST, 0)]
-    return "U", m.parent(), object, *m.chance.choice(m.chance.choice((limits, other_kind, unknown)))
+    kind = m.objects[object][0]
+    other_kind = [work for other in FITTING if other != kind for work in FITTING[other]]
+    return "U", m.parent(), object, *m.chance.choice(m.chance.choice((BEYOND[kind], other_kind, UNKNOWN)))
 
 
 def respond_to_plain(m):
@@ -213,7 +244,8 @@ def several_reasons(m):
     letter = chance.choice("NUUUGCB")
     if letter != "U":
         return letter, t
-    return letter, t, chance.choice((0, len(m.objects), LARGEST)), chance.choice((0, 1, 3, 5, 6)), chance.choice((0, 1, 1_000_001, LARGEST))
+    arguments = (0, 1, -1, 1_000_001, -1_000_001, LARGEST, -LARGEST)
+    return letter, t, chance.choice((0, len(m.objects), LARGEST)), chance.randrange(9), chance.choice(arguments)
 
 
 REFUSALS = [
@@ -232,10 +264,15 @@ def refusal(m):
 # ------------------------------------------------------------------- the shapes
 
 
+def some_object(chance, kinds):
+    """An object of one of the kinds, with an opening of any size, a counter's of either sign."""
+    kind = chance.choice(kinds)
+    size = chance.choice((0, 10, chance.randint(0, 50), chance.randint(0, 1_000), chance.randint(0, 10**9), 10**9))
+    return kind, either_sign(chance, size) if kind == "K" else size
+
+
 def some_objects(chance, most=4):
-    """Accounts and registers with openings of all sizes."""
-    openings = (0, 10, chance.randint(0, 50), chance.randint(0, 1_000), chance.randint(0, 10**9), 10**9)
-    return [(chance.choice("AAR"), chance.choice(openings)) for _ in range(chance.randint(1, most))]
+    return [some_object(chance, "AAARRKKK") for _ in range(chance.randint(1, most))]
 
 
 def usual_size(chance):
@@ -344,6 +381,21 @@ def failing_withdrawals(chance):
             one_action(m, (0, 0, 3, 6, 2, 2))
 
 
+def recounts(chance):
+    """Counters: small adjustments, many by 0, beside counts, by a few jobs."""
+    m = Maker(chance, [("K", chance.randint(-9, 9)) for _ in range(chance.randint(1, 2))], usual_size(chance))
+    while True:
+        if chance.random() < 0.3:
+            m.plain(m.parent())
+        operation = chance.choice((6, 6, 7))
+        t = m.access(m.parent(), m.object(), operation, 0 if operation == 7 else chance.choice((0, 0, 3, -3, chance.randint(-9, 9))))
+        m.respond(t)
+        if t in m.answered and chance.random() < 0.5:
+            m.commit(t)
+        if chance.random() < 0.5:
+            one_action(m, (0, 0, 3, 6, 2, 1))
+
+
 def deep(chance):
     """A chain; work at its bottom is committed up while another asks for the same."""
     m = Maker(chance, some_objects(chance, 2))
@@ -401,7 +453,7 @@ def wide(chance):
         m.finish(t)
     m.commit(parent)
     for object in range(len(m.objects)):
-        m.respond(m.access(0, object, 1 if m.objects[object][0] == "A" else 4, 0))
+        m.respond(m.access(0, object, LOOK[m.objects[object][0]], 0))
     return m
 
 
@@ -429,17 +481,21 @@ def full(chance):
     return m
 
 
-def full_of_deposits(chance):
-    """The largest balance there can be but for the last number, which asks for it."""
-    m = Maker(chance, [("A", 10**9)])
-    for t in range(1, 1_024):
-        m.access(0, 0, 2, 1_000_000)
-        m.respond(t)
-        m.commit(t)
-    m.respond(m.access(0, 0, 1, 0))
-    refusal(m)
-    m.plain(0)
-    return m
+def full_of(kind, operation, sign):
+    """The shape of a file with the largest balance or count there can be, or the lowest, but for the last number, which asks for it."""
+
+    def shape(chance):
+        m = Maker(chance, [(kind, sign * 10**9)])
+        for t in range(1, 1_024):
+            m.access(0, 0, operation, sign * 1_000_000)
+            m.respond(t)
+            m.commit(t)
+        m.respond(m.access(0, 0, LOOK[kind], 0))
+        refusal(m)
+        m.plain(0)
+        return m
+
+    return shape
 
 
 def long(chance):
@@ -449,14 +505,13 @@ def long(chance):
     while True:
         one_action(m, (4, 6, 12, 8, 1, 6) if m.count() < 1_024 else (1, 1, 20, 20, 1, 30))
         if chance.random() < wordy:
-            m.call("U", chance.choice((LARGEST, m.parent())), LARGEST, LARGEST, LARGEST)
+            m.call("U", chance.choice((LARGEST, m.parent())), LARGEST, LARGEST, chance.choice((LARGEST, -LARGEST)))
 
 
 def many_objects(chance):
     """Up to 64 objects, each with work."""
     count = chance.choice((64, 64, 63, chance.randint(8, 62)))
-    objects = [(chance.choice("AR"), chance.choice((0, 7, chance.randint(0, 10**9)))) for _ in range(count)]
-    m = Maker(chance, objects, chance.randint(60, 250))
+    m = Maker(chance, [some_object(chance, "ARK") for _ in range(count)], chance.randint(60, 250))
     while True:
         one_action(m, (2, 5, 6, 4, 0.4, 0.5))
 
@@ -465,7 +520,9 @@ def refused_opening(chance):
     """An opening that answers 14; calls may follow, which are not made."""
     objects = some_objects(chance, chance.choice((1, 3, 64)))
     at = chance.randrange(len(objects))
-    objects[at] = objects[at][0], chance.choice((1_000_000_001, 1_000_000_002, 2_024_000_000, 2**31 - 1, 2**31, LARGEST))
+    kind, beyond = objects[at][0], chance.choice((1_000_000_001, 1_000_000_002, 2_024_000_000, 2**31 - 1, 2**31, LARGEST))
+    below = chance.choice((-beyond, -1, -10**9)) if kind != "K" else -beyond
+    objects[at] = kind, chance.choice((beyond, below))
     if chance.random() < 0.2:
         objects = []
     lines = [chance.choice(("N 0", "U 0 0 1 0", "G 1", "C 1", "B 0")) for _ in range(chance.choice((0, 1, 5, 30)))]
@@ -493,10 +550,13 @@ SHAPES = {
     "waits": (waits, 10),
     "refusals": (by_weights(3, 4, 4, 3, 0.7, 12), 10),
     "failing withdrawals": (failing_withdrawals, 7),
+    "recounts": (recounts, 7),
     "deep": (deep, 4),
     "wide": (wide, 4),
     "full": (full, 8),
-    "full of deposits": (full_of_deposits, 0.2),
+    "full of deposits": (full_of("A", 2, 1), 0.2),
+    "full of adjustments up": (full_of("K", 6, 1), 0.1),
+    "full of adjustments down": (full_of("K", 6, -1), 0.1),
     "long": (long, 1.2),
     "many objects": (many_objects, 4),
     "refused opening": (refused_opening, 8),

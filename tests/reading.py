@@ -1,10 +1,10 @@
 #!/usr/bin/env python3
-"""An independent reading of document 01: the lock store and its runner.
+"""An independent reading of document 01 and request Q-1: the lock store and its runner.
 
     reading.py < FILE      prints what the runner prints on FILE
     reading.py FILE ...    prints, for each file, its base name and then that
 
-It is written from the document alone and as literally as the document allows:
+It is written from these alone and as literally as they allow:
 a list of work is a Python list, a view is those lists joined from the root
 down, refusals are tried in the document's order, a table stands as a table.
 
@@ -22,10 +22,6 @@ LONGEST_FILE = 65_536
 MOST_OBJECTS = 64
 MOST_CALLS = 4_096
 LARGEST_NUMBER = 4_294_967_295
-
-# Letter -> how many numbers follow it.
-OBJECT_LETTERS = {b"A": 1, b"R": 1}
-CALL_LETTERS = {b"N": 1, b"U": 4, b"G": 1, b"C": 1, b"B": 1}
 
 
 class BadFile(Exception):
@@ -45,6 +41,25 @@ def number(field):
     return value if value <= LARGEST_NUMBER else None
 
 
+def signed(field):
+    """The number that an opening or an argument spells, a minus allowed but never before 0; or None."""
+    if not field.startswith(b"-"):
+        return number(field)
+    size = number(field[1:])
+    return -size if size else None
+
+
+# Letter -> what reads each of the fields that follow it.
+OBJECT_LETTERS = {b"A": (signed,), b"R": (signed,), b"K": (signed,)}
+CALL_LETTERS = {
+    b"N": (number,),
+    b"U": (number, number, number, signed),
+    b"G": (number,),
+    b"C": (number,),
+    b"B": (number,),
+}
+
+
 def count_line(line, limit):
     """The count on a line, or None if the line is wrong."""
     value = number(line)
@@ -54,10 +69,11 @@ def count_line(line, limit):
 def letter_line(line, letters):
     """(letter, number, ...) from a line, or None if the line is wrong."""
     letter, *fields = line.split(b" ")
-    numbers = [number(field) for field in fields]
-    if len(numbers) != letters.get(letter) or None in numbers:
+    readers = letters.get(letter)
+    if readers is None or len(readers) != len(fields):
         return None
-    return (letter.decode("ascii"), *numbers)
+    numbers = [read(field) for read, field in zip(readers, fields)]
+    return None if None in numbers else (letter.decode("ascii"), *numbers)
 
 
 def read_run_file(data):
@@ -88,18 +104,20 @@ def read_run_file(data):
 
 # --------------------------------------------------------- objects and numbers
 
-BALANCE, DEPOSIT, WITHDRAW, READ, WRITE = 1, 2, 3, 4, 5
+BALANCE, DEPOSIT, WITHDRAW, READ, WRITE, ADJUST, COUNT = 1, 2, 3, 4, 5, 6, 7
 
 # Kind -> lowest and highest opening.
 OPENINGS = {
     "A": (0, 1_000_000_000),
     "R": (0, 1_000_000_000),
+    "K": (-1_000_000_000, 1_000_000_000),
 }
 
 # Kind -> operation -> lowest and highest argument.
 OPERATIONS = {
     "A": {BALANCE: (0, 0), DEPOSIT: (1, 1_000_000), WITHDRAW: (1, 1_000_000)},
     "R": {READ: (0, 0), WRITE: (0, 1_000_000_000)},
+    "K": {ADJUST: (-1_000_000, 1_000_000), COUNT: (0, 0)},
 }
 
 # A result is the a, b of an answered response.
@@ -118,9 +136,9 @@ def within(value, limits):
 
 def serial(state, operation, argument):
     """The serial object: (result, state after)."""
-    if operation in (BALANCE, READ):
+    if operation in (BALANCE, READ, COUNT):
         return value_of(state), state
-    if operation == DEPOSIT:
+    if operation in (DEPOSIT, ADJUST):
         return OK, state + argument
     if operation == WITHDRAW:
         return (OK, state - argument) if state >= argument else (FAIL, state)
@@ -131,7 +149,7 @@ def serial(state, operation, argument):
 
 # ---------------------------------------------------------- the conflict table
 
-# Operation and a of its result -> class of answer.
+# Operation and a of its result -> class of answer; an adjustment by 0 is a class of its own.
 CLASSES = {
     (BALANCE, 2): "balance",
     (DEPOSIT, 1): "deposit",
@@ -139,11 +157,14 @@ CLASSES = {
     (WITHDRAW, 0): "withdraw FAIL",
     (READ, 2): "read",
     (WRITE, 1): "write",
+    (ADJUST, 1): "adjust",
+    (COUNT, 2): "count",
 }
 
 COLUMNS = {
     "A": ("balance", "deposit", "withdraw OK", "withdraw FAIL"),
     "R": ("read", "write"),
+    "K": ("adjust", "adjust by 0", "count"),
 }
 
 ROWS = {
@@ -157,11 +178,19 @@ ROWS = {
         "read":  ("pass",     "conflict"),
         "write": ("conflict", "conflict"),
     },
+    "K": {
+        "adjust":      ("pass",     "pass", "conflict"),
+        "adjust by 0": ("pass",     "pass", "pass"),
+        "count":       ("conflict", "pass", "pass"),
+    },
 }
 
 
-def answer_class(operation, result):
-    return CLASSES[operation, result[0]]
+def answer_class(access, result):
+    """The class of this access's answer, if the result is this."""
+    if (access.operation, access.argument) == (ADJUST, 0):
+        return "adjust by 0"
+    return CLASSES[access.operation, result[0]]
 
 
 def conflicts(kind, one, other):
@@ -257,7 +286,7 @@ class Store:
         """(access, holder) of all that conflict with access t and this result."""
         asking = self.transactions[t]
         kind, _ = self.objects[asking.object]
-        asking_class = answer_class(asking.operation, result)
+        asking_class = answer_class(asking, result)
         at_or_above = set(self.path(t))
         found = []
         for holder, transaction in enumerate(self.transactions):
@@ -265,7 +294,7 @@ class Store:
                 continue
             for held in transaction.lists[asking.object]:
                 done = self.transactions[held]
-                held_class = answer_class(done.operation, done.result)
+                held_class = answer_class(done, done.result)
                 if conflicts(kind, held_class, asking_class):
                     found.append((held, holder))
         return found

@@ -1,5 +1,5 @@
 #!/usr/bin/env python3
-"""Stores on both sides of each form rule of document 01.
+"""Stores on both sides of each form rule of document 01 and request Q-1.
 
     stores.py      makes them all, checks them and counts them by rule
 
@@ -103,14 +103,39 @@ def at_the_limits():
     return store
 
 
+def counters():
+    """Adjustments up, down and by 0 and counts: on their own lists, a job's and the root's, aborted, and waiting."""
+    store = opened("K -20", "K 1000", "A 5", "R 5")
+    play(store, "N 0 / U 1 0 6 -3 / G 2 / C 2 / U 1 0 6 0 / G 3 / U 1 0 7 0 / G 4 / C 4")
+    play(store, "N 0 / U 5 1 7 0 / G 6 / C 6 / U 5 1 6 0 / G 7 / U 5 1 6 8 / G 8 / B 8")
+    codes = play(store, "U 0 0 6 7 / G 9 / U 0 0 7 0 / G 10 / U 0 0 6 0 / G 11 / U 0 1 6 -1 / G 12 / U 0 1 7 0 / G 13 / C 13")
+    assert codes == [0, 13, 0, 13, 0, 0, 0, 13, 0, 0, 0]
+    return store
+
+
+def counters_at_the_limits():
+    """Openings and adjustments at the ends of their ranges, and counts beyond the openings'."""
+    store = opened("K -1000000000", "K 0", "K 1000000000")
+    works = ["0 6 -1000000", "0 7 0", "1 6 -1", "1 7 0", "1 6 1000000", "1 7 0", "2 6 1000000", "2 6 0", "2 7 0"]
+    for work in works:
+        play(store, f"U 0 {work}")
+        t = len(store.transactions) - 1
+        play(store, f"G {t} / C {t}")
+    for work in works:
+        play(store, f"U 0 {work}")
+    return store
+
+
 def many_objects():
     """64 objects with work on each, under a job for every eight."""
-    store = opened(*(f"{'AR'[o % 2]} {o * 15_000_000}" for o in range(64)))
+    works = {"A": "2 3", "R": "5 4", "K": "6 -3"}
+    kinds = ["ARK"[o % 3] for o in range(64)]
+    store = opened(*(f"{kind} {o * (-15_000_000 if kind == 'K' else 15_000_000)}" for o, kind in enumerate(kinds)))
     for job in range(8):
         play(store, "N 0")
     for o in range(63):  # none on the last
         job, access = o // 8 + 1, o + 9
-        play(store, f"U {job} {o} " + ("5 4" if o % 2 else "2 3"))
+        play(store, f"U {job} {o} {works[kinds[o]]}")
         if o % 5:
             play(store, f"G {access}")
         if o % 3:
@@ -143,15 +168,25 @@ def full_of_listed():
     return store
 
 
+def full_of_adjustments():
+    """The lowest count there can be but for the last number, which has not asked for it yet."""
+    store = opened("K -1000000000")
+    for t in range(1, 1_024):
+        play(store, f"U 0 0 6 -1000000 / G {t} / C {t}")
+    play(store, "U 0 0 7 0")
+    return store
+
+
 def full_and_mixed():
     """1,024 transactions of all sorts, from a seed."""
     chance = random.Random(1_024)
-    store = opened("A 900", "R 3", "A 0", "R 9")
+    store = opened("A 900", "R 3", "A 0", "R 9", "K -30")
+    works = ((0, 1), (0, 2), (0, 2), (2, 2), (0, 3), (2, 3), (1, 4), (3, 4), (1, 5), (3, 5), (4, 6), (4, 6), (4, 7))
     while len(store.transactions) <= 1_024:
         last = len(store.transactions) - 1
         near = chance.randint(max(0, last - 40), last) if chance.random() < 0.9 else 0
-        object, operation = chance.choice(((0, 1), (0, 2), (0, 2), (2, 2), (0, 3), (2, 3), (1, 4), (3, 4), (1, 5), (3, 5)))
-        argument = 0 if operation in (1, 4) else chance.randint(1, 50)
+        object, operation = chance.choice(works)
+        argument = 0 if operation in (1, 4, 7) else chance.randint(-50 if operation == 6 else 1, 50)
         call = chance.choice((f"N {near}", f"U {near} {object} {operation} {argument}", f"G {near}", f"G {near}", f"C {near}", f"C {near}"))
         play(store, call if chance.random() < 0.98 else f"B {near}")
     return store
@@ -165,9 +200,12 @@ STARTS = {
     "aborted": aborted_parts,
     "waiting": waiting,
     "limits": at_the_limits,
+    "counters": counters,
+    "counter limits": counters_at_the_limits,
     "objects": many_objects,
     "deep": deep_chain,
     "listed": full_of_listed,
+    "adjusted": full_of_adjustments,
     "mixed": full_and_mixed,
 }
 
@@ -195,8 +233,8 @@ def one_of_each(rows, key):
 
 
 def work_classes(c):
-    """An access for each operation and outcome."""
-    return one_of_each(columns.accesses(c), lambda t: (c.operation[t], c.outcome[t]))
+    """An access for each operation and outcome, with argument 0 and with another."""
+    return one_of_each(columns.accesses(c), lambda t: (c.operation[t], c.outcome[t], c.argument[t] == 0))
 
 
 def on_lists(c):
@@ -229,12 +267,32 @@ def at_or_beneath(c, t):
 LARGE_COUNTS = (2**8, 2**16, 2**32, 2**63, 2**64 - 1)
 EXTREMES = (-(2**63), -(2**32), -(2**31), 2**31, 2**32, 2**63 - 1)
 
-OPERATIONS_OF = {"A": (1, 2, 3), "R": (4, 5)}
-OUTCOMES_OF = {1: (3,), 2: (2,), 3: (1, 2), 4: (3,), 5: (2,)}
-GOOD_ARGUMENTS = {1: (0,), 2: (1, 1_000_000), 3: (1, 1_000_000), 4: (0,), 5: (0, 1_000_000_000)}
-BAD_ARGUMENTS = {1: (-1, 1), 2: (-1, 0, 1_000_001, 2**32 + 1), 3: (-1, 0, 1_000_001, 2**32 + 1), 4: (-1, 1), 5: (-1, 1_000_000_001, 2**32 + 1)}
-GOOD_VALUES = {1: (0, 2_024_000_000), 2: (0,), 3: (0,), 4: (0, 1_000_000_000), 5: (0,)}
-BAD_VALUES = {1: (-1, 2_024_000_001), 2: (-1, 1), 3: (-1, 1), 4: (-1, 1_000_000_001, 2_024_000_000), 5: (-1, 1)}
+OPERATIONS_OF = {"A": (1, 2, 3), "R": (4, 5), "K": (6, 7)}
+FIT_WITH_ZERO = {"A": (1,), "R": (4, 5), "K": (6, 7)}
+UNKNOWN_KINDS = "BJLQSakr"
+GOOD_OPENINGS = {"A": (0, 1, 999_999_999, 1_000_000_000), "R": (0, 1, 999_999_999, 1_000_000_000), "K": (-1_000_000_000, -1, 0, 1_000_000_000)}
+BAD_OPENINGS = {"A": (-1, 1_000_000_001), "R": (-1, 1_000_000_001), "K": (-1_000_000_001, 1_000_000_001)}
+OUTCOMES_OF = {1: (3,), 2: (2,), 3: (1, 2), 4: (3,), 5: (2,), 6: (2,), 7: (3,)}
+GOOD_ARGUMENTS = {1: (0,), 2: (1, 1_000_000), 3: (1, 1_000_000), 4: (0,), 5: (0, 1_000_000_000), 6: (-1_000_000, -1, 0, 1_000_000), 7: (0,)}
+BAD_ARGUMENTS = {
+    1: (-1, 1),
+    2: (-1, 0, 1_000_001, 2**32 + 1),
+    3: (-1, 0, 1_000_001, 2**32 + 1),
+    4: (-1, 1),
+    5: (-1, 1_000_000_001, 2**32 + 1),
+    6: (-1_000_001, 1_000_001, 2**32 + 1, -(2**32) - 1),
+    7: (-1, 1),
+}
+GOOD_VALUES = {1: (0, 2_024_000_000), 2: (0,), 3: (0,), 4: (0, 1_000_000_000), 5: (0,), 6: (0,), 7: (-2_024_000_000, -1, 0, 2_024_000_000)}
+BAD_VALUES = {
+    1: (-1, 2_024_000_001),
+    2: (-1, 1),
+    3: (-1, 1),
+    4: (-1, 1_000_000_001, 2_024_000_000),
+    5: (-1, 1),
+    6: (-1, 1),
+    7: (-2_024_000_001, 2_024_000_001),
+}
 
 
 def around_objects(c, chance):
@@ -267,24 +325,27 @@ def around_transactions(c, chance):
 
 def around_kind(c, chance):
     for o in some(chance, range(c.objects), 2):
-        for letter in (0, *chance.sample((1, 64, *map(ord, "BQSar"), ord("A") + 128, ord("R") + 128, 255), 4)):
+        for letter in (0, *chance.sample((1, 64, *map(ord, UNKNOWN_KINDS), *(ord(kind) + 128 for kind in OPERATIONS_OF), 255), 4)):
             yield f"kind of {o} is {letter}", KIND, [("kind", o, letter)]
-        other = ord("R") if c.kind[o] == ord("A") else ord("A")
         used = any(c.object[t] == o for t in columns.accesses(c))
-        yield f"kind of {o} is the other", WORK if used else None, [("kind", o, other)]
+        for other in [kind for kind in OPERATIONS_OF if kind != chr(c.kind[o])]:
+            below = c.opening[o] < 0 and other != "K"
+            yield f"kind of {o} is {other}", OPENING if below else WORK if used else None, [("kind", o, ord(other))]
     if c.objects < 64:
         more = ("objects", None, c.objects + 1)
-        for letter in "AR":
-            yield f"one more object, {letter}", None, [more, ("kind", c.objects, ord(letter)), ("opening", c.objects, 1_000_000_000)]
-        for letter in "BQSar":
+        for letter, openings in GOOD_OPENINGS.items():
+            for opening in (openings[0], openings[-1]):
+                yield f"one more object, {letter} {opening}", None, [more, ("kind", c.objects, ord(letter)), ("opening", c.objects, opening)]
+        for letter in UNKNOWN_KINDS:
             yield f"one more object, {letter}", KIND, [more, ("kind", c.objects, ord(letter))]
 
 
 def around_opening(c, chance):
     for o in some(chance, range(c.objects), 2):
-        for good in (0, 1, 999_999_999, 1_000_000_000):
+        kind = chr(c.kind[o])
+        for good in GOOD_OPENINGS[kind]:
             yield f"opening of {o} is {good}", None, [("opening", o, good)]
-        for bad in (-1, 1_000_000_001, *chance.sample(EXTREMES, 3)):
+        for bad in (*BAD_OPENINGS[kind], *chance.sample(EXTREMES, 3)):
             yield f"opening of {o} is {bad}", OPENING, [("opening", o, bad)]
 
 
@@ -319,19 +380,19 @@ def after_operation(c, t, new):
         return None
     if (old, new) == (3, 2):
         return RESULT if outcome == 1 else None
-    if (old, new) == (4, 5) or (old, new) == (5, 4) and c.argument[t] == 0:
+    if (old, new) in ((4, 5), (7, 6)) or (old, new) in ((5, 4), (6, 7)) and c.argument[t] == 0:
         return RESULT if outcome else None
-    return WORK  # balance has argument 0, its neighbours never; a write of more than 0 is no read
+    return WORK  # balance has argument 0, its neighbours never; a write or an adjustment other than 0 is no read or count
 
 
 def around_work(c, chance):
-    for t in some(chance, work_classes(c), 5):
+    for t in some(chance, work_classes(c), 6):
         for bad in {c.objects, 64, 128 + c.object[t], 255}:
             yield f"object of {t} is {bad}", WORK, [("object", t, bad)]
         for o in some(chance, range(c.objects)):
             fits = c.kind[o] == c.kind[c.object[t]]
             yield f"object of {t} is {o}", None if fits else WORK, [("object", t, o)]
-        for new in (0, 1, 2, 3, 4, 5, 6, chance.choice((7, 128 + c.operation[t], 255))):
+        for new in (*range(9), chance.choice((9, 128 + c.operation[t], 255))):
             yield f"operation of {t} is {new}", after_operation(c, t, new), [("operation", t, new)]
         for good in GOOD_ARGUMENTS[c.operation[t]]:
             yield f"argument of {t} is {good}", None, [("argument", t, good)]
@@ -460,9 +521,9 @@ def around_unused(c, chance):
     for t in sorted({*some(chance, columns.plains(c), 2), *some(chance, childless, 1)}):
         for field, value in (("object", 1), ("argument", 1), ("argument", -1), ("outcome", 2), ("value", -1), ("holder", t), ("place", 1)):
             yield f"{field} of plain {t} is {value}", UNUSED, [(field, t, value)]
-        for operation in (1, 2, 3, 4, 5, 6, 255):
+        for operation in (*range(1, 9), 255):
             # On object 0, with argument 0 and no answer.
-            fits = c.objects > 0 and operation in {"A": (1,), "R": (4, 5)}[chr(c.kind[0])]
+            fits = c.objects > 0 and operation in FIT_WITH_ZERO[chr(c.kind[0])]
             rule = PARENT_PLAIN if t in parents else None if fits else WORK
             yield f"operation of plain {t} is {operation}", rule, [("operation", t, operation)]
 
@@ -477,6 +538,8 @@ def any_change(c, chance):
         value = chance.choice((chance.randrange(4), chance.randrange(c.count + 2), chance.randrange(c.listed + 2), chance.randrange(256)))
         if letter == "B":
             value %= 256
+        if letter == "q":
+            value *= chance.choice((1, -1))
         yield f"{field} at {index} is {value}", COMPUTED, [(field, index, value)]
 
 

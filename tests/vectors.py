@@ -6,9 +6,7 @@ usage: vectors.py FOLDER
 import os
 import sys
 
-from reading import Store, call
-
-BALANCE, DEPOSIT, WITHDRAW, READ, WRITE = 1, 2, 3, 4, 5
+from reading import ADJUST, BALANCE, COUNT, DEPOSIT, READ, WITHDRAW, WRITE, Store, call
 
 
 def file_of(objects, calls):
@@ -43,12 +41,36 @@ def wrong_at_line(made, number):
     return "\n".join(lines)
 
 
+def steps_to_root(first, last, operation, argument):
+    """Accesses `first` to `last` under the root, each answered and committed."""
+    calls = []
+    for t in range(first, last + 1):
+        calls += ["U 0 0 %d %d" % (operation, argument), "G %d" % t, "C %d" % t]
+    return calls
+
+
 def largest_balance():
     """The largest opening and as many deposits of the largest size as leave a number for a balance."""
-    calls = []
-    for t in range(1, 1024):
-        calls += ["U 0 0 %d 1000000" % DEPOSIT, "G %d" % t, "C %d" % t]
-    return file_of(["A 1000000000"], calls + ["U 0 0 %d 0" % BALANCE, "G 1024"])
+    return file_of(["A 1000000000"], steps_to_root(1, 1023, DEPOSIT, 1000000) + ["U 0 0 %d 0" % BALANCE, "G 1024"])
+
+
+def furthest_count(sign):
+    """The opening and as many adjustments furthest to one side as leave a number for a count; then what is refused for lack of numbers."""
+    calls = steps_to_root(1, 1023, ADJUST, sign * 1000000) + ["U 0 0 %d 0" % COUNT, "G 1024", "C 1024"]
+    calls += ["U 0 0 %d %d" % (ADJUST, argument) for argument in (-1000000, 1000000, -1000001, 1000001)]
+    return file_of(["K %d" % (sign * 1000000000)], calls)
+
+
+def to_the_bound(sign):
+    """The furthest opening and 1,024 adjustments furthest to the same side: the count's bound is reached, and no number is left to count."""
+    calls = steps_to_root(1, 1024, ADJUST, sign * 1000000) + ["U 0 0 %d 0" % COUNT]
+    return file_of(["K %d" % (sign * 1000000000)], calls)
+
+
+def count_and_back():
+    """From the lowest opening down by half the numbers there are and back again, a count at either end."""
+    calls = steps_to_root(1, 511, ADJUST, -1000000) + steps_to_root(512, 512, COUNT, 0)
+    return file_of(["K -1000000000"], calls + steps_to_root(513, 1023, ADJUST, 1000000) + steps_to_root(1024, 1024, COUNT, 0))
 
 
 def chain(first, last, top):
@@ -120,8 +142,14 @@ class Chance:
         return choices[self.below(len(choices))]
 
 
-def mixed(seed, objects, reach):
-    """4,096 calls. Most are sensible where they stand, on one of the latest `reach` transactions; some are anything at all."""
+WORKS = {"A": [BALANCE, DEPOSIT, WITHDRAW, WITHDRAW], "R": [READ, WRITE], "K": [ADJUST, ADJUST, COUNT]}
+UNSIGNED = [0, 1, 5, 1000000, 1000001, 4294967295]
+SIGNED = UNSIGNED + [-1, -5, -1000000, -1000001, -4294967295]
+
+
+def mixed(seed, objects, reach, operations=7, arguments=UNSIGNED):
+    """4,096 calls. Most are sensible where they stand, on one of the latest `reach` transactions; some are anything at all, of so many
+    operations and of these arguments."""
     chance, calls = Chance(seed), []
     store = Store()
     store.open([(text[0], int(text[2:])) for text in objects])
@@ -146,14 +174,19 @@ def mixed(seed, objects, reach):
         if way < 32:
             return ("N", chance.of(plain + [0]))
         o = chance.below(len(objects))
-        operation = chance.of([BALANCE, DEPOSIT, WITHDRAW, WITHDRAW] if objects[o][0] == "A" else [READ, WRITE])
-        argument = 0 if operation in (BALANCE, READ) else 1 + chance.below(20)
+        operation = chance.of(WORKS[objects[o][0]])
+        if operation in (BALANCE, READ, COUNT):
+            argument = 0
+        elif operation == ADJUST:
+            argument = chance.below(7) - 3
+        else:
+            argument = 1 + chance.below(20)
         return ("U", chance.of(plain + [0]), o, operation, argument)
 
     def anything():
         t = chance.below(len(store.transactions) + 3)
         if chance.below(3) == 0:
-            return ("U", t, chance.below(len(objects) + 2), chance.below(7), chance.of([0, 1, 5, 1000000, 1000001, 4294967295]))
+            return ("U", t, chance.below(len(objects) + 2), chance.below(operations), chance.of(arguments))
         return (chance.of("NGCB"), t)
 
     while len(calls) < 4096:
@@ -173,6 +206,11 @@ FILES = {
     "edge-65537-bytes-wrong-line": wrong_at_line(file_of_length(65537), 4),
     "edge-20000-digits": file_of(["A 10"], ["N 0", "N " + "1" * 20000]),
     "edge-largest-balance": largest_balance(),
+    "edge-largest-count": furthest_count(1),
+    "edge-least-count": furthest_count(-1),
+    "edge-count-and-back": count_and_back(),
+    "edge-bound-above": to_the_bound(1),
+    "edge-bound-below": to_the_bound(-1),
     "deep-commits": deep_commits(),
     "deep-full": deep_full(),
     "deep-work": deep_work(),
@@ -180,6 +218,7 @@ FILES = {
     "many-objects": many_objects(),
     "mixed-two-objects": mixed(1, ["A 10", "R 7"], 12),
     "mixed-eight-objects": mixed(9, ["A 10", "R 7", "A 0", "R 0", "A 1000000000", "R 1000000000", "A 30", "A 5"], 30),
+    "mixed-counters": mixed(3, ["K -5", "A 10", "K 1000000000", "R 7", "K -1000000000"], 20, 9, SIGNED),
 }
 
 
