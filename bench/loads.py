@@ -1,7 +1,8 @@
 """The loads: run files of 10, 100 and 1,000 transactions, within document 01's 4,096 calls and 65,536 bytes."""
 SIZES = (10, 100, 1000)
-ACCOUNT, REGISTER = "A 1000", "R 7"
+ACCOUNT, REGISTER, COUNTER = "A 1000", "R 7", "K -7"
 BALANCE, DEPOSIT_5, DEPOSIT_7, WITHDRAW_3, READ = "1 0", "2 5", "2 7", "3 3", "4 0"
+UP_3, DOWN_3, COUNT = "6 3", "6 -3", "7 0"
 
 
 class Calls:
@@ -31,20 +32,29 @@ def job(calls, size):
     return [ACCOUNT] * 8
 
 
-def all_open(calls, size):
+def at_once(calls, size, asked, waiting):
+    """Jobs of four steps, all open at once; `asked` says a job's steps, and `waiting` what must then wait for the first ones."""
     jobs, turns = [], [[], [], [], []]
     for j in range(size // 5):
         jobs.append(calls.create("N", 0))
-        asked = ((j % 8, DEPOSIT_5), ((j + 3) % 8, DEPOSIT_7), (8 + j % 8, READ), (8 + (j + 1) % 8, READ))
-        for turn, step in zip(turns, asked):
+        for turn, step in zip(turns, asked(j)):
             turn.append(calls.create("U", jobs[-1], *step))
     for turn in turns:
         calls.each("G", turn)
     for j in range(min(20, len(jobs))):
-        calls.each("G", [calls.create("U", 0, j % 8, BALANCE)])  # must wait for the deposits
+        calls.each("G", [calls.create("U", 0, j % 8, waiting)])
     for turn in (*turns, jobs):
         calls.each("C", turn)
+
+
+def all_open(calls, size):
+    at_once(calls, size, lambda j: ((j % 8, DEPOSIT_5), ((j + 3) % 8, DEPOSIT_7), (8 + j % 8, READ), (8 + (j + 1) % 8, READ)), BALANCE)
     return [ACCOUNT] * 8 + [REGISTER] * 8
+
+
+def recounted(calls, size):
+    at_once(calls, size, lambda j: ((j % 8, UP_3), ((j + 3) % 8, DOWN_3), ((j + 5) % 8, UP_3), ((j + 6) % 8, DOWN_3)), COUNT)
+    return [COUNTER] * 8
 
 
 def chained(calls, depth, steps):
@@ -59,6 +69,7 @@ def chained(calls, depth, steps):
 LOADS = {
     "job": ("jobs one after the other, each of three steps", job),
     "open": ("all open at once, with waits", all_open),
+    "recount": ("all open at once, adjusting counters, with waits", recounted),
     "deep": ("one chain, 5 deposits at its end", lambda calls, size: chained(calls, size - 5, 5)),
     "late": ("a chain of half, deposits of half at its end", lambda calls, size: chained(calls, size // 2, size // 2)),
 }

@@ -45,9 +45,10 @@ def panel(left, top, kind, rows, highest):
 def drawn(rows):
     highest = ceil(log10(max(max(totals.values()) for _, totals in rows.values())))
     across, down = LEFT + WIDTH + RIGHT, HEIGHT + BELOW
-    size = f'width="{2 * across}" height="{TOP + 2 * down}" viewBox="0 0 {2 * across} {TOP + 2 * down}"'
+    width, height = 2 * across, TOP + ceil(len(LOADS) / 2) * down
+    size = f'width="{width}" height="{height}" viewBox="0 0 {width} {height}"'
     parts = [f'<svg xmlns="http://www.w3.org/2000/svg" {size} font-family="sans-serif" font-size="12">']
     for i, kind in enumerate(LOADS):
         parts += panel(LEFT + i % 2 * across, TOP + i // 2 * down, kind, rows, highest)
     scales = "Up: instructions per call, fewer is better. Across: transactions of the load. Both scales are logarithmic."
-    return "\n".join([*parts, words(LEFT, TOP + 2 * down - 20, scales), "</svg>", ""])
+    return "\n".join([*parts, words(LEFT, height - 20, scales), "</svg>", ""])

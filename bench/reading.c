@@ -1,4 +1,4 @@
-/* Document 01 read in C: the product's columns and algorithms (docs/ARCHITECTURE.md), a store lent by pointer. FORM says how each call tests the form
+/* Document 01 and request Q-1 read in C: the product's columns and algorithms (docs/ARCHITECTURE.md), a store lent by pointer. FORM says how each call tests the form
  * of the store first, as the product's calls do. 0: not at all. 1, plain: row by row over all rows. 2, quick: row by row over those in use, and the
  * rest of each column compared with zero as memory. */
 #include <stdbool.h>
@@ -6,7 +6,7 @@
 #include "flarebutton.h"
 enum { OBJECTS = 64, PLACES = 1024, ROWS = PLACES + 1, CALLS = 4096 };
 enum { OPEN, COMMITTED, ABORTED };
-enum { PLAIN, BALANCE, DEPOSIT, WITHDRAW, READ, WRITE, OPERATIONS, SHORT = OPERATIONS, CLASSES };
+enum { PLAIN, BALANCE, DEPOSIT, WITHDRAW, READ, WRITE, ADJUST, COUNT, OPERATIONS, SHORT = OPERATIONS, STILL, CLASSES };
 enum { UNANSWERED, FAIL, OK, VALUE }; /* an answer's a, and 1 */
 typedef struct {
     size_t objects, count, listed;
@@ -19,36 +19,42 @@ static Answer done(uint32_t a, int64_t b) { return (Answer){0, a, b}; }
 static Answer refusal(uint32_t code) { return (Answer){code, 0, 0}; }
 
 /* The serial objects. Bit i of `outcomes`: outcome i is allowed. */
-static const struct { uint8_t kind, outcomes; int64_t least, most, value_most; } operations[OPERATIONS] = {
-    [BALANCE] = {'A', 1 << UNANSWERED | 1 << VALUE, 0, 0, 2024000000},
-    [DEPOSIT] = {'A', 1 << UNANSWERED | 1 << OK, 1, 1000000, 0},
-    [WITHDRAW] = {'A', 1 << UNANSWERED | 1 << OK | 1 << FAIL, 1, 1000000, 0},
-    [READ] = {'R', 1 << UNANSWERED | 1 << VALUE, 0, 0, 1000000000},
-    [WRITE] = {'R', 1 << UNANSWERED | 1 << OK, 0, 1000000000, 0},
+static const struct { uint8_t kind, outcomes; int64_t least, most, value_least, value_most; } operations[OPERATIONS] = {
+    [BALANCE] = {'A', 1 << UNANSWERED | 1 << VALUE, 0, 0, 0, 2024000000},
+    [DEPOSIT] = {'A', 1 << UNANSWERED | 1 << OK, 1, 1000000, 0, 0},
+    [WITHDRAW] = {'A', 1 << UNANSWERED | 1 << OK | 1 << FAIL, 1, 1000000, 0, 0},
+    [READ] = {'R', 1 << UNANSWERED | 1 << VALUE, 0, 0, 0, 1000000000},
+    [WRITE] = {'R', 1 << UNANSWERED | 1 << OK, 0, 1000000000, 0, 0},
+    [ADJUST] = {'K', 1 << UNANSWERED | 1 << OK, -1000000, 1000000, 0, 0},
+    [COUNT] = {'K', 1 << UNANSWERED | 1 << VALUE, 0, 0, -2024000000, 2024000000},
 };
-/* An answer's class is its operation's number; a withdrawal that failed has SHORT. */
+/* An answer's class is its operation's number; a withdrawal that failed has SHORT, an adjustment by 0 STILL, which conflicts with nothing. */
 static const bool conflicts[CLASSES][CLASSES] = {
     [BALANCE] = {[DEPOSIT] = true, [WITHDRAW] = true}, [WITHDRAW] = {[BALANCE] = true, [WITHDRAW] = true},
     [DEPOSIT] = {[BALANCE] = true, [SHORT] = true}, [SHORT] = {[DEPOSIT] = true},
     [READ] = {[WRITE] = true}, [WRITE] = {[READ] = true, [WRITE] = true},
+    [ADJUST] = {[COUNT] = true}, [COUNT] = {[ADJUST] = true},
 };
-static uint8_t class_of(uint8_t operation, uint8_t outcome) { return outcome == FAIL ? SHORT : operation; }
-static bool opens(uint8_t kind, int64_t opening) { return (kind == 'A' || kind == 'R') && 0 <= opening && opening <= 1000000000; }
+static uint8_t class_of(uint8_t operation, int64_t argument, uint8_t outcome) {
+    return outcome == FAIL ? SHORT : operation == ADJUST && argument == 0 ? STILL : operation;
+}
+static bool is_kind(uint8_t letter) { return letter == 'A' || letter == 'R' || letter == 'K'; }
+static bool opens(uint8_t kind, int64_t opening) { return is_kind(kind) && (kind == 'K' ? -1000000000 : 0) <= opening && opening <= 1000000000; }
 static bool fits(uint8_t kind, uint32_t operation, int64_t argument) {
     if (OPERATIONS <= operation || operations[operation].kind != kind) return false;
     return operations[operation].least <= argument && argument <= operations[operation].most;
 }
 static bool allows(uint8_t operation, uint8_t outcome, int64_t value) {
-    int64_t most = outcome == VALUE ? operations[operation].value_most : 0;
-    return outcome <= VALUE && (operations[operation].outcomes >> outcome & 1) && 0 <= value && value <= most;
+    int64_t least = outcome == VALUE ? operations[operation].value_least : 0, most = outcome == VALUE ? operations[operation].value_most : 0;
+    return outcome <= VALUE && (operations[operation].outcomes >> outcome & 1) && least <= value && value <= most;
 }
 static int64_t after(int64_t state, uint8_t operation, int64_t argument) {
-    if (operation == DEPOSIT) return state + argument;
+    if (operation == DEPOSIT || operation == ADJUST) return state + argument;
     if (operation == WITHDRAW && argument <= state) return state - argument;
     return operation == WRITE ? argument : state;
 }
 static uint8_t outcome_of(int64_t state, uint8_t operation, int64_t argument) {
-    if (operation == BALANCE || operation == READ) return VALUE;
+    if (operation == BALANCE || operation == READ || operation == COUNT) return VALUE;
     return operation == WITHDRAW && state < argument ? FAIL : OK;
 }
 
@@ -127,7 +133,7 @@ static bool in_form(const Store *s) {
 }
 
 /* The calls. */
-static Answer open_store(Store *s, uint32_t objects, const uint8_t *kind, const uint32_t *opening) {
+static Answer open_store(Store *s, uint32_t objects, const uint8_t *kind, const int64_t *opening) {
     memset(s, 0, sizeof *s);
     if (objects == 0 || OBJECTS < objects) return refusal(14);
     for (uint32_t o = 0; o < objects; o++)
@@ -182,7 +188,7 @@ static uint32_t first_wait(const Store *s, uint32_t t, uint8_t class) {
     for (uint32_t x = t; x != 0; x = s->parent[x]) above[x] = true;
     above[0] = true;
     for (uint32_t x = 1; x <= s->count; x++)
-        if (s->place[x] != 0 && s->object[x] == s->object[t] && !above[s->holder[x]] && conflicts[class][class_of(s->operation[x], s->outcome[x])])
+        if (s->place[x] != 0 && s->object[x] == s->object[t] && !above[s->holder[x]] && conflicts[class][class_of(s->operation[x], s->argument[x], s->outcome[x])])
             return x;
     return 0;
 }
@@ -203,7 +209,7 @@ static Answer respond(Store *s, uint32_t t) {
     link_work(s, s->object[t], &chains);
     int64_t state = replayed(s, &chains, s->opening[s->object[t]], t);
     uint8_t outcome = outcome_of(state, s->operation[t], s->argument[t]);
-    uint32_t wait = first_wait(s, t, class_of(s->operation[t], outcome));
+    uint32_t wait = first_wait(s, t, class_of(s->operation[t], s->argument[t], outcome));
     if (wait != 0) return (Answer){13, s->holder[wait], wait};
     s->outcome[t] = outcome;
     s->value[t] = outcome == VALUE ? state : 0;
@@ -253,10 +259,10 @@ static Answer drop(Store *s, uint32_t t) {
     return done(t, 0);
 }
 
-/* The run file, in which nothing is negative. */
+/* The run file, in which an opening or an argument may be negative. */
 typedef struct { const uint8_t *at, *end; } Text;
-typedef struct { uint8_t letter; uint32_t t, object, operation, argument; } Call;
-typedef struct { uint32_t objects, calls; uint8_t kind[OBJECTS]; uint32_t opening[OBJECTS]; Call call[CALLS]; } File;
+typedef struct { uint8_t letter; uint32_t t, object, operation; int64_t argument; } Call;
+typedef struct { uint32_t objects, calls; uint8_t kind[OBJECTS]; int64_t opening[OBJECTS]; Call call[CALLS]; } File;
 static bool read_number(Text *in, uint8_t stop, uint32_t *n) {
     if (in->at == in->end || 9u < (uint32_t)*in->at - '0') return false;
     uint64_t v = *in->at++ - '0';
@@ -267,20 +273,28 @@ static bool read_number(Text *in, uint8_t stop, uint32_t *n) {
     }
     return false;
 }
+static bool read_signed(Text *in, uint8_t stop, int64_t *n) {
+    bool negative = in->at != in->end && *in->at == '-';
+    uint32_t size;
+    in->at += negative;
+    if (!read_number(in, stop, &size) || (negative && size == 0)) return false;
+    *n = negative ? -(int64_t)size : size;
+    return true;
+}
 /* The letter before a space, or 0. */
 static uint8_t read_letter(Text *in) {
     if (in->end - in->at < 2 || in->at[1] != ' ') return 0;
     in->at += 2;
     return in->at[-2];
 }
-static bool read_object(Text *in, uint8_t *kind, uint32_t *opening) {
+static bool read_object(Text *in, uint8_t *kind, int64_t *opening) {
     *kind = read_letter(in);
-    return (*kind == 'A' || *kind == 'R') && read_number(in, '\n', opening);
+    return is_kind(*kind) && read_signed(in, '\n', opening);
 }
 static bool read_call(Text *in, Call *c) {
     switch (c->letter = read_letter(in)) {
     case 'U': return read_number(in, ' ', &c->t) && read_number(in, ' ', &c->object) && read_number(in, ' ', &c->operation) &&
-                     read_number(in, '\n', &c->argument);
+                     read_signed(in, '\n', &c->argument);
     case 'N': case 'G': case 'C': case 'B': return read_number(in, '\n', &c->t);
     default: return false;
     }
@@ -303,7 +317,11 @@ static uint8_t *put_number(uint8_t *out, uint64_t n, uint8_t stop) {
     *out++ = stop;
     return out;
 }
-static uint8_t *put_answer(uint8_t *out, Answer r) { return put_number(put_number(put_number(out, r.code, ' '), r.a, ' '), r.b, '\n'); }
+static uint8_t *put_answer(uint8_t *out, Answer r) {
+    out = put_number(put_number(out, r.code, ' '), r.a, ' ');
+    if (r.b < 0) *out++ = '-';
+    return put_number(out, r.b < 0 ? -r.b : r.b, '\n');
+}
 static Answer make_call(Store *s, const Call *c) {
     switch (c->letter) {
     case 'N': return create(s, c->t, false, 0, PLAIN, 0);
