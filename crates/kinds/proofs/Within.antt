@@ -54,6 +54,10 @@ in-signed-bits low (negsuc m) (pos n) fl fh e f = absurd (let z : _≡_ {A = ℕ
 in-signed-bits (pos l) high (negsuc n) fl fh e f = absurd (let z : _≡_ {A = ℕ} 0 1 = cc in omega arith)
 in-signed-bits (negsuc l) high (negsuc n) fl fh e f = record { sfits = omega (arith, ltb-false l n e, fl .sfits) }
 
+-- what the machine says of the bits of two numbers, of the numbers
+pub compared : (x y : ℤ) (b : Bool) → SFits w64 x → SFits w64 y → ltZ (toZ w64 (ofZ w64 x)) (toZ w64 (ofZ w64 y)) ≡ b → ltZ x y ≡ b
+compared x y b fx fy e = rw (toZ-ofZ {w = w64} fx, toZ-ofZ {w = w64} fy) at e
+
 -- a bound of 32 bits, read as one of 64
 pub bound : (n : ℕ) → Fits w32 n → toZ w64 n ≡ pos n
 bound n f = toZ-pos w64 n (omega (arith, f .fits))

@@ -9,7 +9,7 @@ use lib.Seq.{drop-append-seam}
 use lib.Dec.{ltb}
 use borrow.Author.Tests.{lt-ltb, le-ltb}
 use Rattle.below.proofs.Tests.{le-or, either, cases}
-use Rattle.written.specs.Written.{objectsMost, callsMost, bytesMost, Contents, RunFile, IsRunFile, Top, FirstWrong}
+use Rattle.written.specs.Written.{objectsMost, callsMost, bytesMost, Contents, RunFile, IsRunFile, Lines, Top, FirstWrong}
 use Rattle.written.specs.Check.{layoutOf, checkOf}
 use Rattle.written.specs.File.{File, good, bad, checkedFile, fileOf}
 use Rattle.written.specs.declared.Layout.{Layout}
@@ -75,10 +75,11 @@ module _ (s : List ℕ) (h : Halt s) where
   halt-wrong : FirstWrong IsRunFile s (1 + h .count)
   halt-wrong =
       let line : 1 + h .count - 1 ≡ h .count = omega arith in
+      let lines : Lines (1 + h .count - 1) (h .before) = rw line (h .lines) in
       record {
         numbered = omega arith;
         before = h .before;
-        top = record { rest = drop (h .behind) s; parts = h .here .here; lines = rw line (h .lines) };
+        top = record { rest = drop (h .behind) s; parts = h .here .here; lines = lines };
         right = h .right;
         wrong = λ upto t begins. no-next upto t (begins .0) (begins .1);
         broken = no-run-file s (h .behind) (h .here) (shares-self s (h .behind));

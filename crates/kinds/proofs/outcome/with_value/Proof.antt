@@ -1,11 +1,11 @@
-use mathlib.Core.Bool.{false}
+use mathlib.Core.Bool.{true, false}
 use mathlib.Core.Path.{_≡_}
 use lib.Signed.{ltZ}
 use mir.Syntax.{w64}
 use mir.Facts.{toZ-ofZ}
 use Rattle.kinds.specs.declared.outcome.Recalled.the-variants.{Given, Unshaped}
 use Rattle.kinds.specs.declared.outcome.Outcome.the-variants.{Value}
-use Rattle.kinds.proofs.Within.{out-low, out-high, in-range}
+use Rattle.kinds.proofs.Within.{compared, out-low, out-high, in-range}
 use Rattle.kinds.proofs.outcome.with_value.Statement.{statement}
 use Rattle.kinds.proofs.outcome.with_value.Tie as tie
 
@@ -13,23 +13,23 @@ returns : tie.Need-returns
 returns c =
     let a = c .before .args in
     let f = c .before .fits in
-    out-low (λ v. Given (Value v)) Unshaped (a .b) (a .low) (a .high) (rw (toZ-ofZ {w = w64} (f .b), toZ-ofZ {w = w64} (f .low)) at (c .if1 .taken))
+    out-low (λ v. Given (Value v)) Unshaped (a .b) (a .low) (a .high) (compared (a .b) (a .low) true (f .b) (f .low) (c .if1 .taken))
 
 not-below : (c : tie.Else1) → ltZ (c .before .args .b) (c .before .args .low) ≡ false
-not-below c = rw (toZ-ofZ {w = w64} (c .before .fits .b), toZ-ofZ {w = w64} (c .before .fits .low)) at (c .if1 .left)
+not-below c = compared (c .before .args .b) (c .before .args .low) false (c .before .fits .b) (c .before .fits .low) (c .if1 .left)
 
 returns-2 : tie.Need-returns-2
 returns-2 c =
     let a = c .before .before .args in
     let f = c .before .before .fits in
     out-high (λ v. Given (Value v)) Unshaped (a .b) (a .low) (a .high) (not-below (c .before))
-    (rw (toZ-ofZ {w = w64} (f .b), toZ-ofZ {w = w64} (f .high)) at (c .if2 .taken))
+    (compared (a .high) (a .b) true (f .high) (f .b) (c .if2 .taken))
 
 returns-3 : tie.Need-returns-3
 returns-3 c =
     let a = c .before .before .args in
     let f = c .before .before .fits in
-    let not-above : ltZ (a .high) (a .b) ≡ false = rw (toZ-ofZ {w = w64} (f .b), toZ-ofZ {w = w64} (f .high)) at (c .if2 .left) in
+    let not-above = compared (a .high) (a .b) false (f .high) (f .b) (c .if2 .left) in
     rw (toZ-ofZ {w = w64} (f .b)) (in-range (λ v. Given (Value v)) Unshaped (a .b) (a .low) (a .high) (not-below (c .before)) not-above)
 
 pub with-value-spec : {M : Type 1} → statement M

@@ -1,6 +1,9 @@
+use Prim.Native.Nat.{_+_}
 use mathlib.Core.Path.{sym}
+use lib.ListN.{getD}
 use borrow.Author.Needs.{needs}
 use borrow.Author.Tests.{eq-eqb, ne-eqb}
+use Rattle.text.specs.Text.{space}
 use Rattle.written.specs.Line.{letterAt}
 use Rattle.written.proofs.Letters.{letter-past}
 use Rattle.runfile.proofs.line.letter_at.Statement.{statement}
@@ -23,11 +26,15 @@ shared-slice-read-result c = search needs
 
 returns-3 : tie.Need-returns-3
 unfolding letterAt
-returns-3 c = simp (eq-eqb _ _ (c .before .if3 .taken))
+returns-3 c =
+    let a = c .before .before .before .before .before .args in
+    simp (eq-eqb (getD (a .file .now) (a .at + 1) 0) space (c .before .if3 .taken))
 
 returns-4 : tie.Need-returns-4
 unfolding letterAt
-returns-4 c = simp (ne-eqb _ _ (c .if3 .left))
+returns-4 c =
+    let a = c .before .before .before .before .args in
+    simp (ne-eqb (getD (a .file .now) (a .at + 1) 0) space (c .if3 .left))
 
 pub letter-at-spec : {M : Type 1} → statement M
 letter-at-spec =
