@@ -14,7 +14,7 @@ use Rattle.below.proofs.Column.{filled-at}
 use Rattle.theory.specs.History.{Role, other}
 use Rattle.theory.proofs.Rows.{Got, nothing, got, Rows, Unwritten}
 use Rattle.kinds.specs.declared.Kind.{Kind}
-use Rattle.kinds.specs.declared.Kind.the-variants.{Account, Register, Counter, Unknown}
+use Rattle.kinds.proofs.Fits.{fit-number}
 use Rattle.kinds.specs.declared.Answered.{Answered}
 use Rattle.kinds.specs.declared.Decoded.{Decoded}
 use Rattle.kinds.specs.declared.Decoded.the-variants.{Fit, Unfit}
@@ -38,10 +38,11 @@ use Rattle.demands.specs.Locking.{lockingOf}
 
 -- 0 is no operation of any kind
 unfit-zero : (kind : Kind) (argument : ℤ) → decodeOf kind 0 argument ≡ Unfit
-unfit-zero Account argument = refl
-unfit-zero Register argument = refl
-unfit-zero Counter argument = refl
-unfit-zero Unknown argument = refl
+unfit-zero kind argument = go (decodeOf kind 0 argument) refl
+  where
+    go : (d : Decoded) → decodeOf kind 0 argument ≡ d → d ≡ Unfit
+    go (Fit o) e = absurd (omega (arith, fit-number kind 0 argument o e .0))
+    go Unfit e = refl
 
 unanswered-nothing : (d : Decoded) (outcome : ℕ) (value : ℤ) → outcome ≡ 0 → recordedOf d outcome value ≡ Nothing
 unanswered-nothing (Fit a) outcome value e = rw (eq-eqb outcome 0 e)

@@ -1,6 +1,6 @@
 -- A square table of rules, kept as rows: one test that antt computes over the whole table, and what it says at every row and column.
 use mathlib.Core.Path.{_≡_, refl, sym, ap, _∙_}
-use mathlib.Core.Bool.{Bool, true, false, _&&_, _||_, and-eq-true-iff, true≢false}
+use mathlib.Core.Bool.{Bool, true, false, _&&_, and-eq-true-iff, or-comm, true≢false}
 use mathlib.Core.Logic.{⊎-elim}
 use mathlib.Core.List.{List, [], _∷_}
 use Prim.Native.Nat.{ℕ, zero, suc, _<_, _≤_}
@@ -101,16 +101,10 @@ turned Pass = Pass
 turned Conflict = Conflict
 turned UnlessEqual = UnlessEqual
 
-or-sym : (a b : Bool) → (a || b) ≡ (b || a)
-or-sym true true = refl
-or-sym true false = refl
-or-sym false true = refl
-or-sym false false = refl
-
 turned-judges : (r : Rule) (k l : ℤ) → judge (turned r) k l ≡ judge r l k
 turned-judges Pass k l = refl
 turned-judges Conflict k l = refl
-turned-judges UnlessEqual k l = or-sym (ltZ k l) (ltZ l k)
+turned-judges UnlessEqual k l = or-comm (ltZ k l) (ltZ l k)
 
 -- a rule as a number, and back
 abbrev number : Rule → ℕ

@@ -72,6 +72,7 @@ onCounter (O.Account o) other f = other
 onCounter (O.Register o) other f = other
 onCounter (O.Counter o) other f = f o
 
+-- FAIL, and the state as it was
 abbrev pub idle : State → Stepped
 idle s = record { state = s; outcome = Fail }
 

@@ -1,4 +1,4 @@
--- Numbers from outside, and the ranges that a kind sets for them.
+-- Numbers from outside, and the ranges that a kind sets for them. Source: document 01, "Objects and numbers"; request Q-1: a range may reach below zero.
 use Prim.Native.Nat.{ℕ}
 use mathlib.Core.Bool.{cond, _&&_}
 use lib.IntN.{ℤ, pos, negℤ, natAbs}
