@@ -13,7 +13,7 @@ use Rattle.theory.proofs.Rows.{Rows}
 use Rattle.theory.proofs.Agree.{known-within, within-known, asked-row, row-asked}
 use Rattle.theory.proofs.Atomic.{total-is-work, dynamic-atomic, total-legal}
 use Rattle.kinds.specs.Object.{objectOf}
-use Rattle.kinds.proofs.Claims.{passes-commute}
+use Rattle.kinds.proofs.Claims.{passes-commute, conflicts-exactly}
 use Rattle.columns.specs.Column.{at}
 use Rattle.store.specs.declared.Store.{Store}
 use Rattle.store.specs.declared.Reply.{Reply}
@@ -36,6 +36,7 @@ use Rattle.demands.proofs.Taken.{starts, lists-are}
 use Rattle.demands.proofs.TakenRespond.{view-are}
 use Rattle.demands.proofs.Reached.{takes, reached, reached-tree}
 use Rattle.demands.proofs.Blocked.{waits-exactly}
+use Rattle.demands.proofs.Caused.{wait-uncommuting}
 
 pub demand-1 : Demand1
 demand-1 = record { listed = listed; handed-back = λ s c. answers s c .refused; opens = opens; unopened = unopened }
@@ -92,6 +93,8 @@ demand-2 = record {
   waits = waits-exactly;
   names = respond-waits;
   table = passes-commute;
+  exact = conflicts-exactly;
+  caused = wait-uncommuting;
 }
 
 module _ (r : Run) (t : ℕ) where

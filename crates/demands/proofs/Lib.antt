@@ -10,6 +10,7 @@ pub mod Taken
 pub mod TakenRespond
 pub mod Reached
 pub mod Blocked
+pub mod Caused
 pub mod Demands
 pub mod Real
 pub mod Cases

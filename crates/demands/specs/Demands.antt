@@ -1,4 +1,4 @@
--- The customer's three demands, as statements. Source: document 00.
+-- The customer's three demands, as statements. Source: document 00; request Q-2.
 use Prim.Native.Nat.{ℕ, _<_, _≤_}
 use mathlib.Core.Path.{_≡_}
 use mathlib.Core.Bool.{true, false}
@@ -18,11 +18,12 @@ use Rattle.kinds.specs.declared.Answered.{Answered}
 use Rattle.kinds.specs.Kinds.{conflictOf}
 use Rattle.kinds.specs.Outcome.{numbersOf}
 use Rattle.kinds.specs.Object.{objectOf, opOf}
+use Rattle.kinds.specs.Cause.{Possible}
 use Rattle.columns.specs.Column.{at}
 use Rattle.columns.specs.Tree.{hasCommitted, hasAborted}
 use Rattle.store.specs.declared.Store.{Store}
 use Rattle.store.specs.Form.{inForm}
-use Rattle.store.specs.Lists.{listOf, viewOf}
+use Rattle.store.specs.Lists.{listOf, viewOf, kindAt}
 use Rattle.refusal.specs.Open.{openable}
 use Rattle.store.specs.Open.{openedStore, emptyStore, openOf}
 use Rattle.refusal.specs.Exact.{codesOf, NoneHolds}
@@ -63,7 +64,7 @@ pub record RowsAgree (r : Run) : Type 0 where
 
 -- 2. Every answer, and every list of work afterwards, is the one that the paper's section 7.1 gives under document 01's rules. A wait is given exactly when
 -- no refusal comes first and some step on the same object, held by a job that isn't at or above the asking one, conflicts by the table. The table never lets
--- two steps pass that the paper says don't commute.
+-- two steps pass that the paper says don't commute; by request Q-2 it says conflict exactly when they don't.
 pub record Demand2 : Type 0 where
   -- each code is given exactly when its condition holds and none earlier in its order does
   pub answers : (s : Store) (c : Call) → Decided s (refusalsTo s c) (doneTo s c) (replyTo s c)
@@ -85,6 +86,11 @@ pub record Demand2 : Type 0 where
   -- for whom: the lowest-numbered such access, and the holder of its list
   pub names : (s : Store) (t : ℕ) → respondOf s t .answer .code ≡ 13 → Waits s t (respondOf s t .answer)
   pub table : (kind : Kind) (p q : Answered) → conflictOf kind p q ≡ false → Commute (objectOf kind) (opOf kind p) (opOf kind q)
+  -- request Q-2, of two answers that some state of the kind can give, with arguments in range
+  pub exact : (kind : Kind) (p q : Answered) → Possible kind p → Possible kind q → (conflictOf kind p q ≡ true) ↔ ¬ Commute (objectOf kind) (opOf kind p) (opOf kind q)
+  -- so no wait is without a cause: whatever is in the way does not commute with the asking operation and its result
+  pub caused : (s : Store) (t : ℕ) → respondOf s t .answer .code ≡ 13 → (b : Blocked s t) → let kind = kindAt s (at (s .object) t) in
+      ¬ Commute (objectOf kind) (opOf kind (b .asking)) (opOf kind (b .conflicting .held))
 
 -- the view of t in the store after the calls of a run, each access with its recorded result
 abbrev pub viewed : (r : Run) → ℕ → List (Step (objectOf (kindIn r)))

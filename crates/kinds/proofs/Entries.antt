@@ -1,6 +1,6 @@
 -- A square table of rules, kept as rows: one test that antt computes over the whole table, and what it says at every row and column.
 use mathlib.Core.Path.{_≡_, refl, sym, ap, _∙_}
-use mathlib.Core.Bool.{Bool, true, false, _&&_, and-eq-true-iff, or-comm, true≢false}
+use mathlib.Core.Bool.{Bool, true, _&&_, and-eq-true-iff, or-comm}
 use mathlib.Core.Logic.{⊎-elim}
 use mathlib.Core.List.{List, [], _∷_}
 use Prim.Native.Nat.{ℕ, zero, suc, _<_, _≤_}
@@ -20,7 +20,7 @@ use Rattle.kinds.specs.declared.Kind.the-variants.{Account, Register, Co
 use Rattle.kinds.specs.declared.table.Class.{Class}
 use Rattle.kinds.specs.declared.table.Class.the-variants.{Row, None}
 use Rattle.kinds.specs.declared.table.Rule.{Rule}
-use Rattle.kinds.specs.declared.table.Rule.the-variants.{Pass, Conflict, UnlessEqual}
+use Rattle.kinds.specs.declared.table.Rule.the-variants.{Pass, Conflict, UnlessEqual, IfAtLeast, IfAtMost}
 
 -- inside a list the default is of no account
 default-free : {A : Type 0} (l : List A) (k : ℕ) (d e : A) → k < length l → getD l k d ≡ getD l k e
@@ -65,62 +65,46 @@ module _ (rows : List (List Rule)) (n : ℕ) (full : square n rows ≡ true) whe
   past-row a b hb =
       ⊎-elim (λ ha. past-rows a b ha) (λ ha. sym (List·getD-eq-default (getD rows a []) Conflict {n = b} (rw (row-length a ha) hb))) (le-or n a)
 
-pub no-row : (a : ℕ) (k : ℤ) → None ≡ Row a k → ⊥
-no-row a k e = let z : _≡_ {A = ℕ} 0 1 = cc in omega arith
-
-pub same-row : (P : ℕ → ℤ → Type 0) (b a : ℕ) (l k : ℤ) → Row b l ≡ Row a k → P b l → P a k
-same-row P b a l k e h =
-    let q : b ≡ a = cc in
-    let r : l ≡ k = cc in
-    rw (q, r) at h
-
--- a judgement as a number, for arithmetic to read
-abbrev pub weight : Bool → ℕ
-weight false = 0
-weight true = 1
-
--- what passes has a row and a column, and a pass there
-pub record Passed (rows : List (List Rule)) (c d : Class) : Type 0 where
-  pub row : ℕ
-  pub column : ℕ
-  pub row-key : ℤ
-  pub column-key : ℤ
-  pub is-row : c ≡ Row row row-key
-  pub is-column : d ≡ Row column column-key
-  pub is-pass : weight (judge (entry rows row column) row-key column-key) ≡ 0
-
-pub passed : (rows : List (List Rule)) (c d : Class) → verdict rows c d ≡ false → Passed rows c d
-passed rows (Row a k) (Row b l) e =
-    record { row = a; column = b; row-key = k; column-key = l; is-row = refl; is-column = refl; is-pass = ap weight e }
-passed rows (Row a k) None e = absurd (true≢false e)
-passed rows None d e = absurd (true≢false e)
+pub no-column : (rows : List (List Rule)) (c : Class) → verdict rows c None ≡ true
+no-column rows (Row a k) = refl
+no-column rows None = refl
 
 -- the rule seen from the other side
 abbrev turned : Rule → Rule
 turned Pass = Pass
 turned Conflict = Conflict
 turned UnlessEqual = UnlessEqual
+turned IfAtLeast = IfAtMost
+turned IfAtMost = IfAtLeast
 
 turned-judges : (r : Rule) (k l : ℤ) → judge (turned r) k l ≡ judge r l k
 turned-judges Pass k l = refl
 turned-judges Conflict k l = refl
 turned-judges UnlessEqual k l = or-comm (ltZ k l) (ltZ l k)
+turned-judges IfAtLeast k l = refl
+turned-judges IfAtMost k l = refl
 
 -- a rule as a number, and back
 abbrev number : Rule → ℕ
 number Pass = 0
 number Conflict = 1
 number UnlessEqual = 2
+number IfAtLeast = 3
+number IfAtMost = 4
 
 abbrev named : ℕ → Rule
 named zero = Pass
 named (suc zero) = Conflict
-named (suc (suc n)) = UnlessEqual
+named (suc (suc zero)) = UnlessEqual
+named (suc (suc (suc zero))) = IfAtLeast
+named (suc (suc (suc (suc n)))) = IfAtMost
 
 named-number : (r : Rule) → named (number r) ≡ r
 named-number Pass = refl
 named-number Conflict = refl
 named-number UnlessEqual = refl
+named-number IfAtLeast = refl
+named-number IfAtMost = refl
 
 same-number : (q r : Rule) → eqb (number q) (number r) ≡ true → q ≡ r
 same-number q r e = sym (named-number q) ∙ ap named {x = number q} {y = number r} (eqb-true (number q) (number r) e) ∙ named-number r

@@ -3,8 +3,9 @@ pub mod Outcomes
 pub mod Keys
 pub mod Entries
 pub mod Sizes
-pub mod Passing
 pub mod Takes
+pub mod Gives
+pub mod Exactly
 pub mod Fits
 pub mod Claims
 pub mod Sole

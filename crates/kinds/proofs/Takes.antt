@@ -1,19 +1,20 @@
 -- What `decode` lets through: the operations of the kind with their arguments in range. So no sum wraps, and every answer is one that the form allows.
 use mathlib.Core.Path.{_≡_, refl}
-use mathlib.Core.Bool.{Bool, true, false, cond}
+use mathlib.Core.Bool.{true}
 use mathlib.Core.Logic.{⊎-elim}
 use Prim.Native.Nat.{ℕ, suc, _+_, _-_, _≤_}
 use mathlib.Core.List.{List, [], _∷_}
 use lib.ListN.{length}
 use native.Mathlib.Nat.{add-zero}
 use native.Mathlib.Omega.{arith}
-use lib.IntN.{ℤ, natAbs, _+ℤ_}
+use lib.IntN.{ℤ, pos, negℤ, natAbs, _+ℤ_}
+use lib.Signed.{leZ}
 use lib.Dec.{eqb}
 use borrow.Author.Tests.{le-leb, lt-leb}
 use Rattle.below.proofs.Tests.{le-or}
 use Rattle.theory.specs.Serial.{Op, run}
 use Rattle.kinds.specs.Kinds.{openedOf, decodeOf, stepOf, Room, Bounded, recallOf}
-use Rattle.kinds.specs.Outcome.{numbersOf}
+use Rattle.kinds.specs.Outcome.{numbersOf, withValue}
 use Rattle.kinds.specs.Account as A
 use Rattle.kinds.specs.Register as R
 use Rattle.kinds.specs.Counter as K
@@ -31,14 +32,15 @@ use Rattle.kinds.specs.declared.Opening.{Opening}
 use Rattle.kinds.specs.declared.Opening.the-variants.{At, Refused}
 use Rattle.kinds.specs.declared.Decoded.{Decoded}
 use Rattle.kinds.specs.declared.Decoded.the-variants.{Fit, Unfit}
+use Rattle.kinds.specs.declared.outcome.Outcome.the-variants.{Value}
 use Rattle.kinds.specs.declared.outcome.Recalled.the-variants.{Given}
-use Rattle.kinds.proofs.Within.{ranged}
+use Rattle.kinds.proofs.Within.{ranged, either}
 use Rattle.kinds.proofs.Sizes.{sum-size, above-least, below-most, either-sided}
 
 pub data Takes : Kind → Operation → Type 0 where
   balance : Takes Account (O.Account Balance)
-  deposit : {n : ℕ} → 1 ≤ n → n ≤ A.amountMost → Takes Account (O.Account (Deposit n))
-  withdraw : {n : ℕ} → 1 ≤ n → n ≤ A.amountMost → Takes Account (O.Account (Withdraw n))
+  deposit : {n : ℕ} → A.amountLeast ≤ n → n ≤ A.amountMost → Takes Account (O.Account (Deposit n))
+  withdraw : {n : ℕ} → A.amountLeast ≤ n → n ≤ A.amountMost → Takes Account (O.Account (Withdraw n))
   read : Takes Register (O.Register Read)
   write : {n : ℕ} → n ≤ R.valueMost → Takes Register (O.Register (Write n))
   adjust : {z : ℤ} → natAbs z ≤ K.adjustmentMost → Takes Counter (O.Counter (Adjust z))
@@ -48,21 +50,17 @@ abbrev TakesIf : Kind → Decoded → Type 0
 TakesIf kind (Fit o) = Takes kind o
 TakesIf kind Unfit = Unit {0}
 
-either : (kind : Kind) (b : Bool) (d e : Decoded) → TakesIf kind d → TakesIf kind e → TakesIf kind (cond b d e)
-either kind true d e p q = p
-either kind false d e p q = q
-
 takes-if : (kind : Kind) (k : ℕ) (x : ℤ) → TakesIf kind (decodeOf kind k x)
 takes-if Account k x =
-    either Account (eqb k 1) _ _ (ranged (TakesIf Account) (λ n. Fit (O.Account Balance)) Unfit x 0 0 (λ n l h. balance) tt)
-    (either Account (eqb k 2) _ _ (ranged (TakesIf Account) (λ n. Fit (O.Account (Deposit n))) Unfit x 1 A.amountMost (λ n l h. deposit l h) tt)
-    (either Account (eqb k 3) _ _ (ranged (TakesIf Account) (λ n. Fit (O.Account (Withdraw n))) Unfit x 1 A.amountMost (λ n l h. withdraw l h) tt) tt))
+    either (TakesIf Account) (eqb k 1) _ _ (ranged (TakesIf Account) (λ n. Fit (O.Account Balance)) Unfit x 0 0 (λ n l h. balance) tt)
+    (either (TakesIf Account) (eqb k 2) _ _ (ranged (TakesIf Account) (λ n. Fit (O.Account (Deposit n))) Unfit x A.amountLeast A.amountMost (λ n l h. deposit l h) tt)
+    (either (TakesIf Account) (eqb k 3) _ _ (ranged (TakesIf Account) (λ n. Fit (O.Account (Withdraw n))) Unfit x A.amountLeast A.amountMost (λ n l h. withdraw l h) tt) tt))
 takes-if Register k x =
-    either Register (eqb k 4) _ _ (ranged (TakesIf Register) (λ n. Fit (O.Register Read)) Unfit x 0 0 (λ n l h. read) tt)
-    (either Register (eqb k 5) _ _ (ranged (TakesIf Register) (λ n. Fit (O.Register (Write n))) Unfit x 0 R.valueMost (λ n l h. write h) tt) tt)
+    either (TakesIf Register) (eqb k 4) _ _ (ranged (TakesIf Register) (λ n. Fit (O.Register Read)) Unfit x 0 0 (λ n l h. read) tt)
+    (either (TakesIf Register) (eqb k 5) _ _ (ranged (TakesIf Register) (λ n. Fit (O.Register (Write n))) Unfit x 0 R.valueMost (λ n l h. write h) tt) tt)
 takes-if Counter k x =
-    either Counter (eqb k 6) _ _ (either-sided (TakesIf Counter) (λ z. Fit (O.Counter (Adjust z))) Unfit x K.adjustmentMost (λ h. adjust {z = x} h) tt)
-    (either Counter (eqb k 7) _ _ (ranged (TakesIf Counter) (λ n. Fit (O.Counter Count)) Unfit x 0 0 (λ n l h. count) tt) tt)
+    either (TakesIf Counter) (eqb k 6) _ _ (either-sided (TakesIf Counter) (λ z. Fit (O.Counter (Adjust z))) Unfit x K.adjustmentMost (λ h. adjust {z = x} h) tt)
+    (either (TakesIf Counter) (eqb k 7) _ _ (ranged (TakesIf Counter) (λ n. Fit (O.Counter Count)) Unfit x 0 0 (λ n l h. count) tt) tt)
 takes-if Unknown k x = tt
 
 pub decoded-takes : (kind : Kind) (k : ℕ) (x : ℤ) (o : Operation) → decodeOf kind k x ≡ Fit o → Takes kind o
@@ -86,16 +84,20 @@ takes-room kind o (S.Counter c) (write m) h = tt
 takes-room kind o (S.Counter c) (adjust {z} m) h = omega (arith, sum-size (c .count) z)
 takes-room kind o (S.Counter c) count h = tt
 
+-- a value in its range is read back
+value-recalled : (v low high : ℤ) → leZ low v ≡ true → leZ v high ≡ true → withValue v low high ≡ Given (Value v)
+value-recalled v low high l h = rw (l, h)
+
 -- the answer's numbers are read back as that answer
 pub takes-recalled : (kind : Kind) (o : Operation) (s : State) → StateOf kind s → Takes kind o → Bounded s
     → recallOf o (numbersOf (stepOf s o .outcome) .a) (numbersOf (stepOf s o .outcome) .b) ≡ Given (stepOf s o .outcome)
-takes-recalled kind o s (account {n}) balance h = rw (le-leb 0 n (omega arith), le-leb n A.balanceMost h)
+takes-recalled kind o s (account {n}) balance h = value-recalled (pos n) (pos 0) (pos A.balanceMost) (le-leb 0 n (omega arith)) (le-leb n A.balanceMost h)
 takes-recalled kind o s account (deposit l m) h = refl
 takes-recalled kind o s (account {n}) (withdraw {n = m} l k) h = ⊎-elim (λ e. rw (le-leb m n e)) (λ e. rw (lt-leb m n e)) (le-or m n)
-takes-recalled kind o s (register {n} b) read h = rw (le-leb 0 n (omega arith), le-leb n R.valueMost h)
+takes-recalled kind o s (register {n} b) read h = value-recalled (pos n) (pos 0) (pos R.valueMost) (le-leb 0 n (omega arith)) (le-leb n R.valueMost h)
 takes-recalled kind o s (register b) (write m) h = refl
 takes-recalled kind o s counter (adjust m) h = refl
-takes-recalled kind o s (counter {z}) count h = rw (above-least z K.countBound h, below-most z K.countBound h)
+takes-recalled kind o s (counter {z}) count h = value-recalled z (negℤ (pos K.countBound)) (pos K.countBound) (above-least z K.countBound h) (below-most z K.countBound h)
 
 -- what has grown by at most k has by at most one more
 pub grown-more : (kind : Kind) (k : ℕ) (s : State) → Grown kind k s → Grown kind (suc k) s

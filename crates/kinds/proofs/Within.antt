@@ -26,7 +26,7 @@ below-le (pos m) (negsuc n) e = absurd (let z : _≡_ {A = ℕ} 0 1 = cc in omeg
 below-le (negsuc m) (pos n) e = refl
 below-le (negsuc m) (negsuc n) e = lt-leb m n (ltb-true n m e)
 
-not-below-le : (a b : ℤ) → ltZ a b ≡ false → leZ b a ≡ true
+pub not-below-le : (a b : ℤ) → ltZ a b ≡ false → leZ b a ≡ true
 not-below-le (pos m) (pos n) e = le-leb n m (ltb-false m n e)
 not-below-le (pos m) (negsuc n) e = refl
 not-below-le (negsuc m) (pos n) e = absurd (let z : _≡_ {A = ℕ} 0 1 = cc in omega arith)
@@ -124,3 +124,8 @@ module _ {A : Type 0} (P : A → Type 0) where
   ranged f other (pos n) low high h out =
       ranged-signed (λ z. f (natAbs z)) other (pos n) (pos low) (pos high) (λ l r. h n (leb-true low n l) (leb-true n high r)) out
   ranged f other (negsuc n) low high h out = out
+
+-- and of the two sides of a test
+pub either : {A : Type 0} (P : A → Type 0) (b : Bool) (d e : A) → P d → P e → P (cond b d e)
+either P true d e p q = p
+either P false d e p q = q

@@ -1,1 +1,1 @@
-pub mod Passes
+pub mod Exact

@@ -1,4 +1,4 @@
--- A, account. Source: document 01, "Objects and numbers" and "The conflict table".
+-- A, account. Source: document 01, "Objects and numbers" and "The conflict table"; request Q-2.
 use Prim.Native.Nat.{ℕ, _+_, _-_, _<_, _^_}
 use mathlib.Core.Bool.{cond}
 use mathlib.Core.List.{List, [], _∷_}
@@ -22,7 +22,7 @@ use Rattle.kinds.specs.declared.Decoded.the-variants.{Fit, Unfit}
 use Rattle.kinds.specs.declared.table.Class.{Class}
 use Rattle.kinds.specs.declared.table.Class.the-variants.{Row, None}
 use Rattle.kinds.specs.declared.table.Rule.{Rule}
-use Rattle.kinds.specs.declared.table.Rule.the-variants.{Pass, Conflict}
+use Rattle.kinds.specs.declared.table.Rule.the-variants.{Pass, Conflict, IfAtLeast, IfAtMost}
 use Rattle.kinds.specs.Range.{inRange}
 use Rattle.kinds.specs.Outcome.{ok, fail, value, withValue, withoutValue}
 
@@ -33,6 +33,9 @@ accountOf n = S.Account (record { balance = n })
 -- openings 0 to 1,000,000,000, amounts 1 to 1,000,000
 abbrev pub openingMost : ℕ
 openingMost = 1_000_000_000
+
+abbrev pub amountLeast : ℕ
+amountLeast = 1
 
 abbrev pub amountMost : ℕ
 amountMost = 1_000_000
@@ -48,8 +51,8 @@ openedOf opening = inRange opening 0 openingMost (λ n. At (accountOf n)) Refuse
 abbrev pub decodeOf : ℕ → ℤ → Decoded
 decodeOf operation argument =
     cond (eqb operation 1) (inRange argument 0 0 (λ n. Fit (O.Account Balance)) Unfit)
-    (cond (eqb operation 2) (inRange argument 1 amountMost (λ n. Fit (O.Account (Deposit n))) Unfit)
-    (cond (eqb operation 3) (inRange argument 1 amountMost (λ n. Fit (O.Account (Withdraw n))) Unfit) Unfit))
+    (cond (eqb operation 2) (inRange argument amountLeast amountMost (λ n. Fit (O.Account (Deposit n))) Unfit)
+    (cond (eqb operation 3) (inRange argument amountLeast amountMost (λ n. Fit (O.Account (Withdraw n))) Unfit) Unfit))
 
 -- a withdrawal succeeds if the balance is at least the amount; otherwise it answers FAIL and changes nothing
 abbrev pub stepOf : Account → AccountOperation → Stepped
@@ -83,9 +86,10 @@ classOf (Withdraw n) Ok = Row 2 (pos n)
 classOf (Withdraw n) Fail = Row 3 (pos n)
 classOf (Withdraw n) (Value v) = None
 
+-- request Q-2: balance v and a successful withdrawal of b conflict exactly when v is at least b
 abbrev pub table : List (List Rule)
 table =
-    (Pass ∷ Conflict ∷ Conflict ∷ Pass ∷ []) ∷
+    (Pass ∷ Conflict ∷ IfAtLeast ∷ Pass ∷ []) ∷
     (Conflict ∷ Pass ∷ Pass ∷ Conflict ∷ []) ∷
-    (Conflict ∷ Pass ∷ Conflict ∷ Pass ∷ []) ∷
+    (IfAtMost ∷ Pass ∷ Conflict ∷ Pass ∷ []) ∷
     (Pass ∷ Conflict ∷ Pass ∷ Pass ∷ []) ∷ []

@@ -1,4 +1,4 @@
--- The serial objects over all kinds. Source: document 01, "Objects and numbers", "Calls, answers and their order" and "The conflict table"; request Q-1.
+-- The serial objects over all kinds. Source: document 01, "Objects and numbers", "Calls, answers and their order" and "The conflict table"; requests Q-1 and Q-2.
 use Prim.Native.Nat.{ℕ, _≤_}
 use mathlib.Core.Bool.{Bool, true, false, cond}
 use mathlib.Core.List.{List, []}

@@ -6,3 +6,5 @@ pub mod Register
 pub mod Counter
 pub mod Kinds
 pub mod Object
+pub mod Cause
+pub mod Witness

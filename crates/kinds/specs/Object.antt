@@ -36,10 +36,13 @@ objectOf kind = record {
 abbrev pub opOf : (kind : Kind) → Answered → Op (objectOf kind)
 opOf kind p = record { ask = p .operation; reply = p .outcome }
 
--- each operation is one that `decode` lets through
+-- an operation of the kind with its argument in range: one that `decode` lets through
+abbrev pub Fits : Kind → Operation → Type 0
+Fits kind o = (k : ℕ) × (x : ℤ) × (decodeOf kind k x ≡ Fit o)
+
 abbrev pub AllFit : (kind : Kind) → List (Op (objectOf kind)) → Type 0
 AllFit kind [] = Unit {0}
-AllFit kind (p ∷ l) = ((k : ℕ) × (x : ℤ) × (decodeOf kind k x ≡ Fit (p .ask))) × AllFit kind l
+AllFit kind (p ∷ l) = Fits kind (p .ask) × AllFit kind l
 
 -- a state of the kind, grown from an opening by at most so many deposits or adjustments of the largest size
 pub data Grown : Kind → ℕ → State → Type 0 where

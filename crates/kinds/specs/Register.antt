@@ -1,4 +1,4 @@
--- R, register. Source: document 01, "Objects and numbers" and "The conflict table".
+-- R, register. Source: document 01, "Objects and numbers" and "The conflict table"; request Q-2.
 use Prim.Native.Nat.{ℕ}
 use mathlib.Core.Bool.{cond}
 use mathlib.Core.List.{List, [], _∷_}
@@ -22,7 +22,7 @@ use Rattle.kinds.specs.declared.Decoded.the-variants.{Fit, Unfit}
 use Rattle.kinds.specs.declared.table.Class.{Class}
 use Rattle.kinds.specs.declared.table.Class.the-variants.{Row, None}
 use Rattle.kinds.specs.declared.table.Rule.{Rule}
-use Rattle.kinds.specs.declared.table.Rule.the-variants.{Pass, Conflict}
+use Rattle.kinds.specs.declared.table.Rule.the-variants.{Pass, UnlessEqual}
 use Rattle.kinds.specs.Range.{inRange}
 use Rattle.kinds.specs.Outcome.{ok, value, withValue, withoutValue}
 
@@ -61,7 +61,8 @@ classOf (Write n) Ok = Row 1 (pos n)
 classOf (Write n) Fail = None
 classOf (Write n) (Value v) = None
 
+-- request Q-2: read v and write w conflict unless v equals w, two writes unless they put the same value
 abbrev pub table : List (List Rule)
 table =
-    (Pass ∷ Conflict ∷ []) ∷
-    (Conflict ∷ Conflict ∷ []) ∷ []
+    (Pass ∷ UnlessEqual ∷ []) ∷
+    (UnlessEqual ∷ UnlessEqual ∷ []) ∷ []

@@ -53,9 +53,9 @@ impl Account {
     const ROWS: usize = 4;
 
     const TABLE: [[Rule; Account::ROWS]; Account::ROWS] = [
-        [Rule::Pass, Rule::Conflict, Rule::Conflict, Rule::Pass],
+        [Rule::Pass, Rule::Conflict, Rule::IfAtLeast, Rule::Pass],
         [Rule::Conflict, Rule::Pass, Rule::Pass, Rule::Conflict],
-        [Rule::Conflict, Rule::Pass, Rule::Conflict, Rule::Pass],
+        [Rule::IfAtMost, Rule::Pass, Rule::Conflict, Rule::Pass],
         [Rule::Pass, Rule::Conflict, Rule::Pass, Rule::Pass],
     ];
 

@@ -1,4 +1,4 @@
-// The kinds of document 01 and request Q-1: their states and operations, their limits and numbers, the state that each opens with, and its conflict table.
+// The kinds of document 01 and requests Q-1 and Q-2: their states and operations, their limits and numbers, the state that each opens with, and its conflict table.
 // A kind's own part is in its own file. specs/ says besides what an operation does; `account`, `register`, `counter` and `serial` have the functions that do it.
 mod account;
 mod counter;

@@ -38,8 +38,8 @@ impl Register {
     const ROWS: usize = 2;
 
     const TABLE: [[Rule; Register::ROWS]; Register::ROWS] = [
-        [Rule::Pass, Rule::Conflict],
-        [Rule::Conflict, Rule::Conflict],
+        [Rule::Pass, Rule::UnlessEqual],
+        [Rule::UnlessEqual, Rule::UnlessEqual],
     ];
 
     pub fn opened(opening: i64) -> Opening

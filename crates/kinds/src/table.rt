@@ -14,6 +14,10 @@ pub enum Rule {
     Conflict,
     // Unless their keys are equal.
     UnlessEqual,
+    // If the asking answer's key is at least the held one's.
+    IfAtLeast,
+    // The same, where the other of the two asks.
+    IfAtMost,
 }
 
 impl Rule {
@@ -25,6 +29,8 @@ impl Rule {
             Rule::Pass => false,
             Rule::Conflict => true,
             Rule::UnlessEqual => asking != held,
+            Rule::IfAtLeast => held <= asking,
+            Rule::IfAtMost => asking <= held,
         }
     }
 }

@@ -1,4 +1,4 @@
-// The serial objects of document 01 and request Q-1: what each kind takes, what an operation does to a state and answers, and which answers conflict.
+// The serial objects of document 01 and requests Q-1 and Q-2: what each kind takes, what an operation does to a state and answers, and which answers conflict.
 // The definitions of all this, and what is proved of them, are in `kinds`. A kind's own part is in its own crate; here the kinds are told apart.
 ghost use mathlib.Core.Path.{_≡_};
 ghost use Rattle.kinds.specs.Kinds.{kindOf, openedOf, startOf, decodeOf, idle, stepOf, Room, recallOf, classOf, tableOf, conflictOf};

@@ -1,3 +1,6 @@
+use mathlib.Core.Path.{refl}
+use mir.Syntax.{w64}
+use mir.Facts.{toZ-ofZ}
 use borrow.Author.Needs.{needs}
 use Rattle.kinds.proofs.Keys.{unequal}
 use Rattle.kinds.proofs.table.Rule.judge.Statement.{statement}
@@ -12,6 +15,12 @@ enum-told-2 c = search needs
 enum-told-3 : tie.Need-enum-told-3
 enum-told-3 c = search needs
 
+enum-told-4 : tie.Need-enum-told-4
+enum-told-4 c = search needs
+
+enum-told-5 : tie.Need-enum-told-5
+enum-told-5 c = search needs
+
 returns : tie.Need-returns
 returns c = search needs
 
@@ -24,5 +33,17 @@ returns-3 c =
     let f = c .before .before .fits in
     rw (c .enum-told3 .given .1) (unequal (a .asking) (a .held) (f .asking) (f .held))
 
+returns-4 : tie.Need-returns-4
+returns-4 c =
+    let a = c .before .before .args in
+    let f = c .before .before .fits in
+    rw (c .enum-told4 .given .1, toZ-ofZ {w = w64} (f .asking), toZ-ofZ {w = w64} (f .held)) refl
+
+returns-5 : tie.Need-returns-5
+returns-5 c =
+    let a = c .before .before .args in
+    let f = c .before .before .fits in
+    rw (c .enum-told5 .given .1, toZ-ofZ {w = w64} (f .asking), toZ-ofZ {w = w64} (f .held)) refl
+
 pub judge-spec : {M : Type 1} → statement M
-judge-spec = tie.close (tie.spec enum-told enum-told-2 enum-told-3 returns returns-2 returns-3)
+judge-spec = tie.close (tie.spec enum-told enum-told-2 enum-told-3 enum-told-4 enum-told-5 returns returns-2 returns-3 returns-4 returns-5)
