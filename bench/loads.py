@@ -1,8 +1,10 @@
 """The loads: run files of 10, 100 and 1,000 transactions, within document 01's 4,096 calls and 65,536 bytes."""
 SIZES = (10, 100, 1000)
 ACCOUNT, REGISTER, COUNTER = "A 1000", "R 7", "K -7"
+DATED_CARD, NEW_CARD = "R 20261115", "R 0"
 BALANCE, DEPOSIT_5, DEPOSIT_7, WITHDRAW_3, READ = "1 0", "2 5", "2 7", "3 3", "4 0"
 UP_3, DOWN_3, COUNT = "6 3", "6 -3", "7 0"
+SAME_DATE, OTHER_DATE = "5 20261115", "5 20271115"
 
 
 class Calls:
@@ -57,6 +59,11 @@ def recounted(calls, size):
     return [COUNTER] * 8
 
 
+def rescanned(calls, size):
+    at_once(calls, size, lambda j: ((j % 8, SAME_DATE), (8 + j % 8, SAME_DATE), ((j + 3) % 8, READ), (8 + (j + 5) % 8, SAME_DATE)), OTHER_DATE)
+    return [DATED_CARD] * 8 + [NEW_CARD] * 8
+
+
 def chained(calls, depth, steps):
     chain = [calls.create("N", above) for above in range(depth)]
     for _ in range(steps):
@@ -70,6 +77,7 @@ LOADS = {
     "job": ("jobs one after the other, each of three steps", job),
     "open": ("all open at once, with waits", all_open),
     "recount": ("all open at once, adjusting counters, with waits", recounted),
+    "rescan": ("all open at once, putting the same dates, with waits", rescanned),
     "deep": ("one chain, 5 deposits at its end", lambda calls, size: chained(calls, size - 5, 5)),
     "late": ("a chain of half, deposits of half at its end", lambda calls, size: chained(calls, size // 2, size // 2)),
 }

@@ -1,4 +1,4 @@
-/* Document 01 and request Q-1 read in C: the product's columns and algorithms (docs/ARCHITECTURE.md), a store lent by pointer. FORM says how each call tests the form
+/* Document 01 and requests Q-1 and Q-2 read in C: the product's columns and algorithms (docs/ARCHITECTURE.md), a store lent by pointer. FORM says how each call tests the form
  * of the store first, as the product's calls do. 0: not at all. 1, plain: row by row over all rows. 2, quick: row by row over those in use, and the
  * rest of each column compared with zero as memory. */
 #include <stdbool.h>
@@ -28,15 +28,28 @@ static const struct { uint8_t kind, outcomes; int64_t least, most, value_least, 
     [ADJUST] = {'K', 1 << UNANSWERED | 1 << OK, -1000000, 1000000, 0, 0},
     [COUNT] = {'K', 1 << UNANSWERED | 1 << VALUE, 0, 0, -2024000000, 2024000000},
 };
-/* An answer's class is its operation's number; a withdrawal that failed has SHORT, an adjustment by 0 STILL, which conflicts with nothing. */
-static const bool conflicts[CLASSES][CLASSES] = {
-    [BALANCE] = {[DEPOSIT] = true, [WITHDRAW] = true}, [WITHDRAW] = {[BALANCE] = true, [WITHDRAW] = true},
-    [DEPOSIT] = {[BALANCE] = true, [SHORT] = true}, [SHORT] = {[DEPOSIT] = true},
-    [READ] = {[WRITE] = true}, [WRITE] = {[READ] = true, [WRITE] = true},
-    [ADJUST] = {[COUNT] = true}, [COUNT] = {[ADJUST] = true},
+/* An answer's class is its operation's number; a withdrawal that failed has SHORT, an adjustment by 0 STILL, which conflicts with nothing. Its
+ * number is its value, or else its argument. The last three entries conflict if the row's number stands so to the column's. */
+enum { PASS, CONFLICT, UNEQUAL, AT_LEAST, AT_MOST };
+typedef struct { uint8_t class; int64_t number; } Answered;
+static const uint8_t table[CLASSES][CLASSES] = {
+    [BALANCE] = {[DEPOSIT] = CONFLICT, [WITHDRAW] = AT_LEAST}, [WITHDRAW] = {[BALANCE] = AT_MOST, [WITHDRAW] = CONFLICT},
+    [DEPOSIT] = {[BALANCE] = CONFLICT, [SHORT] = CONFLICT}, [SHORT] = {[DEPOSIT] = CONFLICT},
+    [READ] = {[WRITE] = UNEQUAL}, [WRITE] = {[READ] = UNEQUAL, [WRITE] = UNEQUAL},
+    [ADJUST] = {[COUNT] = CONFLICT}, [COUNT] = {[ADJUST] = CONFLICT},
 };
-static uint8_t class_of(uint8_t operation, int64_t argument, uint8_t outcome) {
-    return outcome == FAIL ? SHORT : operation == ADJUST && argument == 0 ? STILL : operation;
+static Answered answered(uint8_t operation, int64_t argument, uint8_t outcome, int64_t value) {
+    uint8_t class = outcome == FAIL ? SHORT : operation == ADJUST && argument == 0 ? STILL : operation;
+    return (Answered){class, outcome == VALUE ? value : argument};
+}
+static bool conflict(Answered row, Answered column) {
+    switch (table[row.class][column.class]) {
+    case PASS: return false;
+    case UNEQUAL: return row.number != column.number;
+    case AT_LEAST: return row.number >= column.number;
+    case AT_MOST: return row.number <= column.number;
+    default: return true;
+    }
 }
 static bool is_kind(uint8_t letter) { return letter == 'A' || letter == 'R' || letter == 'K'; }
 static bool opens(uint8_t kind, int64_t opening) { return is_kind(kind) && (kind == 'K' ? -1000000000 : 0) <= opening && opening <= 1000000000; }
@@ -182,13 +195,14 @@ static int64_t replayed(const Store *s, const Chains *chains, int64_t opening, u
     return state;
 }
 /* The lowest access that t must wait for, or 0. */
-static uint32_t first_wait(const Store *s, uint32_t t, uint8_t class) {
+static uint32_t first_wait(const Store *s, uint32_t t, Answered asked) {
     bool above[ROWS];
     memset(above, 0, s->count + 1);
     for (uint32_t x = t; x != 0; x = s->parent[x]) above[x] = true;
     above[0] = true;
     for (uint32_t x = 1; x <= s->count; x++)
-        if (s->place[x] != 0 && s->object[x] == s->object[t] && !above[s->holder[x]] && conflicts[class][class_of(s->operation[x], s->argument[x], s->outcome[x])])
+        if (s->place[x] != 0 && s->object[x] == s->object[t] && !above[s->holder[x]] &&
+            conflict(asked, answered(s->operation[x], s->argument[x], s->outcome[x], s->value[x])))
             return x;
     return 0;
 }
@@ -209,7 +223,7 @@ static Answer respond(Store *s, uint32_t t) {
     link_work(s, s->object[t], &chains);
     int64_t state = replayed(s, &chains, s->opening[s->object[t]], t);
     uint8_t outcome = outcome_of(state, s->operation[t], s->argument[t]);
-    uint32_t wait = first_wait(s, t, class_of(s->operation[t], s->argument[t], outcome));
+    uint32_t wait = first_wait(s, t, answered(s->operation[t], s->argument[t], outcome, state));
     if (wait != 0) return (Answer){13, s->holder[wait], wait};
     s->outcome[t] = outcome;
     s->value[t] = outcome == VALUE ? state : 0;

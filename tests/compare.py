@@ -1,4 +1,4 @@
-"""Holds the proved programs against the second reading of document 01 and request Q-1.
+"""Holds the proved programs against the second reading of document 01 and requests Q-1 and Q-2.
 
     compare.py FILES SEED      from the project's folder; tests/compare calls it
 
@@ -149,8 +149,11 @@ def some_calls(c, chance, many):
 
 
 def calls_on(name, c, rule):
-    """Few on one out of form, since all are refused; some of each letter on one in form, and more where calls have made it."""
+    """Few on one out of form, since all are refused; some of each letter on one in form, and more where calls have made it.
+    Where held numbers stand around those that are asked: who asks, asks."""
     group = name.split(" | ")[1]
+    if group == "number":
+        return [("G", t) for t in stores.asking(c)]
     many = {"start": 40, "sweep": 1}.get(group, 2 if rule else 8)
     return list(some_calls(c, random.Random(name), many))
 

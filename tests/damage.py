@@ -162,6 +162,17 @@ def sign_changed(data, chance):
     return data[:match.start(1)] + chance.choice(SIGNS)(match.group(1).removeprefix(b"-")) + data[match.end(1):]
 
 
+def number_of_another(data, chance):
+    """Makes one opening or argument equal to another, or one less or more."""
+    found = [match for place in ("opening", "argument") for match in re.finditer(PLACES[place], data, re.MULTILINE)]
+    if not found:
+        return data
+    one, other = chance.choice(found), chance.choice(found)
+    if len(other.group(1)) > 10:
+        return data
+    return data[:one.start(1)] + b"%d" % (int(other.group(1)) + chance.choice([-1, 0, 0, 1])) + data[one.end(1):]
+
+
 def count_off_by_one(data, chance):
     """Changes one of the two counts: a line that is a number alone."""
     counts = list(re.finditer(rb"^[0-9]{1,5}$", data, re.MULTILINE))
@@ -250,7 +261,7 @@ def filled(data, chance):
 CHANGES = [
     byte_changed, byte_of_any_value, byte_dropped, byte_doubled, byte_inserted, space_or_end_changed, letter_changed,
     line_dropped, line_doubled, lines_swapped, empty_line,
-    number_changed, leading_zero, sign_changed, count_off_by_one, objects_at_limit, calls_at_limit,
+    number_changed, leading_zero, sign_changed, number_of_another, count_off_by_one, objects_at_limit, calls_at_limit,
     truncated, last_newline_missing, something_after, padded, filled,
 ]
 

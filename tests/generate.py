@@ -135,7 +135,8 @@ def account_work(chance):
 
 def register_work(chance):
     operation = chance.choice((4, 5))
-    return operation, 0 if operation == 4 else chance.choice((0, chance.randint(0, 99), chance.randint(0, 10**9), 10**9))
+    value = chance.choice((0, 10, chance.randint(0, 2), chance.randint(0, 99), chance.randint(0, 10**9), 10**9))
+    return operation, 0 if operation == 4 else value
 
 
 def counter_work(chance):
@@ -381,19 +382,50 @@ def failing_withdrawals(chance):
             one_action(m, (0, 0, 3, 6, 2, 2))
 
 
-def recounts(chance):
-    """Counters: small adjustments, many by 0, beside counts, by a few jobs."""
-    m = Maker(chance, [("K", chance.randint(-9, 9)) for _ in range(chance.randint(1, 2))], usual_size(chance))
+def put_and_drawn(chance):
+    """Poor accounts: a job draws what it has put in, and looks, its numbers in any order; then others look or draw beside it."""
+    m = Maker(chance, [("A", chance.randint(0, 6)) for _ in range(chance.randint(1, 2))], usual_size(chance))
+    while True:
+        job, object = m.plain(m.parent()), m.object()
+        operations = chance.sample((1, 2, 3), 3)
+        steps = {operation: m.access(job, object, operation, 0 if operation == 1 else chance.randint(1, 9)) for operation in operations}
+        for operation in (2, 3, 1):
+            if m.respond(steps[operation]) == 0 and chance.random() < 0.8:
+                m.commit(steps[operation])
+        for _ in range(2):
+            operation = chance.choice((1, 3))
+            m.respond(m.access(m.parent(), object, operation, 0 if operation == 1 else chance.randint(1, 9)))
+        for _ in range(2):
+            one_action(m, (0, 0, 3, 6, 2, 1))
+
+
+def small_jobs(chance, kind, openings, work):
+    """One or two objects of a kind, their openings in a range, and work on them by a few jobs; `work` says an operation and its argument."""
+    m = Maker(chance, [(kind, chance.randint(*openings)) for _ in range(chance.randint(1, 2))], usual_size(chance))
     while True:
         if chance.random() < 0.3:
             m.plain(m.parent())
-        operation = chance.choice((6, 6, 7))
-        t = m.access(m.parent(), m.object(), operation, 0 if operation == 7 else chance.choice((0, 0, 3, -3, chance.randint(-9, 9))))
+        t = m.access(m.parent(), m.object(), *work())
         m.respond(t)
         if t in m.answered and chance.random() < 0.5:
             m.commit(t)
         if chance.random() < 0.5:
             one_action(m, (0, 0, 3, 6, 2, 1))
+
+
+def recounts(chance):
+    """Counters: small adjustments, many by 0, beside counts."""
+
+    def work():
+        operation = chance.choice((6, 6, 7))
+        return operation, 0 if operation == 7 else chance.choice((0, 0, 3, -3, chance.randint(-9, 9)))
+
+    small_jobs(chance, "K", (-9, 9), work)
+
+
+def rescans(chance):
+    """Registers: writes of few values, many of what is there or of what another has put, beside reads."""
+    small_jobs(chance, "R", (0, 2), lambda: chance.choice(((4, 0), (5, chance.randint(0, 2)))))
 
 
 def deep(chance):
@@ -550,7 +582,9 @@ SHAPES = {
     "waits": (waits, 10),
     "refusals": (by_weights(3, 4, 4, 3, 0.7, 12), 10),
     "failing withdrawals": (failing_withdrawals, 7),
+    "put and drawn": (put_and_drawn, 5),
     "recounts": (recounts, 7),
+    "rescans": (rescans, 7),
     "deep": (deep, 4),
     "wide": (wide, 4),
     "full": (full, 8),

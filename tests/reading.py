@@ -1,5 +1,5 @@
 #!/usr/bin/env python3
-"""An independent reading of document 01 and request Q-1: the lock store and its runner.
+"""An independent reading of document 01 and requests Q-1 and Q-2: the lock store and its runner.
 
     reading.py < FILE      prints what the runner prints on FILE
     reading.py FILE ...    prints, for each file, its base name and then that
@@ -9,9 +9,11 @@ a list of work is a Python list, a view is those lists joined from the root
 down, refusals are tried in the document's order, a table stands as a table.
 
 Imported, it runs nothing.  printed(data) is the whole program from bytes to
-text; read_run_file, run and Store are its parts.
+text; read_run_file, run and Store are its parts.  run and Store take another
+table than the requests' where one is handed to them.
 """
 
+import collections
 import os
 import re
 import sys
@@ -167,16 +169,17 @@ COLUMNS = {
     "K": ("adjust", "adjust by 0", "count"),
 }
 
+# "if" entries: conflict if the row's number stands so to the column's.
 ROWS = {
     "A": {
-        "balance":       ("pass",     "conflict", "conflict", "pass"),
+        "balance":       ("pass",     "conflict", "if >=",    "pass"),
         "deposit":       ("conflict", "pass",     "pass",     "conflict"),
-        "withdraw OK":   ("conflict", "pass",     "conflict", "pass"),
+        "withdraw OK":   ("if <=",    "pass",     "conflict", "pass"),
         "withdraw FAIL": ("pass",     "conflict", "pass",     "pass"),
     },
     "R": {
-        "read":  ("pass",     "conflict"),
-        "write": ("conflict", "conflict"),
+        "read":  ("pass",  "if !="),
+        "write": ("if !=", "if !="),
     },
     "K": {
         "adjust":      ("pass",     "pass", "conflict"),
@@ -185,17 +188,37 @@ ROWS = {
     },
 }
 
+ENTRIES = {
+    "pass": lambda row, column: False,
+    "conflict": lambda row, column: True,
+    "if !=": lambda row, column: row != column,
+    "if >=": lambda row, column: row >= column,
+    "if <=": lambda row, column: row <= column,
+}
 
-def answer_class(access, result):
-    """The class of this access's answer, if the result is this."""
+# What a table judges; the number is the value of a balance, a read or a count, and the argument of anything else.
+Answered = collections.namedtuple("Answered", "answer_class number")
+
+
+def answered(access, result):
+    """This access with its answer, if the result is this."""
+    a, b = result
     if (access.operation, access.argument) == (ADJUST, 0):
-        return "adjust by 0"
-    return CLASSES[access.operation, result[0]]
+        return Answered("adjust by 0", 0)
+    return Answered(CLASSES[access.operation, a], b if a == 2 else access.argument)
 
 
-def conflicts(kind, one, other):
-    """Whether two classes of answer on an object of this kind conflict."""
-    return ROWS[kind][one][COLUMNS[kind].index(other)] == "conflict"
+def by_rows(rows):
+    """What tells by the rows of a table whether two answers on an object of a kind conflict."""
+
+    def conflicts(kind, one, other):
+        entry = rows[kind][one.answer_class][COLUMNS[kind].index(other.answer_class)]
+        return ENTRIES[entry](one.number, other.number)
+
+    return conflicts
+
+
+conflicts = by_rows(ROWS)
 
 
 # ------------------------------------------------------------------- the store
@@ -225,7 +248,8 @@ class Store:
     them breaks a form rule.
     """
 
-    def __init__(self):
+    def __init__(self, conflicts=conflicts):
+        self.conflicts = conflicts
         self.objects = []  # (kind, opening)
         self.transactions = [Transaction(None, None, 0)]  # by number; the root
 
@@ -286,7 +310,7 @@ class Store:
         """(access, holder) of all that conflict with access t and this result."""
         asking = self.transactions[t]
         kind, _ = self.objects[asking.object]
-        asking_class = answer_class(asking, result)
+        asked = answered(asking, result)
         at_or_above = set(self.path(t))
         found = []
         for holder, transaction in enumerate(self.transactions):
@@ -294,8 +318,7 @@ class Store:
                 continue
             for held in transaction.lists[asking.object]:
                 done = self.transactions[held]
-                held_class = answer_class(done, done.result)
-                if conflicts(kind, held_class, asking_class):
+                if self.conflicts(kind, answered(done, done.result), asked):
                     found.append((held, holder))
         return found
 
@@ -303,7 +326,7 @@ class Store:
 
     def open(self, objects):
         """Opens this store anew on a list of (kind, opening)."""
-        self.__init__()
+        self.__init__(self.conflicts)
         if not 1 <= len(objects) <= MOST_OBJECTS:
             return 14, 0, 0
         for kind, opening in objects:
@@ -419,9 +442,9 @@ def call(store, letter, *numbers):
     raise ValueError(letter)
 
 
-def run(objects, calls):
+def run(objects, calls, conflicts=conflicts):
     """The answers to the opening and then, unless it is refused, to each call."""
-    store = Store()
+    store = Store(conflicts)
     answers = [store.open(objects)]
     if answers[0][0] == 0:
         answers += [call(store, *fields) for fields in calls]

@@ -7,7 +7,9 @@ stores() yields (name, bytes, broken rule or None); sweep() more of them.  Each 
 that calls have made, or one that differs from it in one field entry, or in
 the few that a consistent change takes.  Most changes carry by hand the rule
 they are meant to break (None: still in form); it must be what
-columns.broken_rule finds.  The rest are marked COMPUTED.
+columns.broken_rule finds.  The rest are marked COMPUTED.  Some stay in form
+and stand on both sides of each condition of the conflict table, which calls
+cannot always bring about: a balance below a withdrawal that is held.
 """
 
 import collections
@@ -126,6 +128,16 @@ def counters_at_the_limits():
     return store
 
 
+def held_and_asking():
+    """A balance, a withdrawal, a read and a write, each held on an object of its own; every step of its kind asks beside it."""
+    store = opened("A 10", "A 10", "R 7", "R 7")
+    play(store, "U 0 0 1 0 / G 1 / U 0 1 3 4 / G 2 / U 0 2 4 0 / G 3 / U 0 3 5 5 / G 4 / N 0")
+    for object, works in enumerate((("1 0", "2 3", "3 8", "3 12"),) * 2 + (("4 0", "5 3"),) * 2):
+        for work in works:
+            play(store, f"U 5 {object} {work}")
+    return store
+
+
 def many_objects():
     """64 objects with work on each, under a job for every eight."""
     works = {"A": "2 3", "R": "5 4", "K": "6 -3"}
@@ -202,6 +214,7 @@ STARTS = {
     "limits": at_the_limits,
     "counters": counters,
     "counter limits": counters_at_the_limits,
+    "asking": held_and_asking,
     "objects": many_objects,
     "deep": deep_chain,
     "listed": full_of_listed,
@@ -239,6 +252,11 @@ def work_classes(c):
 
 def on_lists(c):
     return [t for t in columns.accesses(c) if c.place[t] != 0]
+
+
+def asking(c):
+    """Open accesses that are not answered, the first few."""
+    return [t for t in columns.unanswered(c) if c.state[t] == 0][:12]
 
 
 def path(c, t):
@@ -444,6 +462,25 @@ def put_on_list(c, t, holder):
     return [("listed", None, c.listed + 1), ("order", c.listed, t), ("place", t, c.listed + 1), ("holder", t, holder)]
 
 
+def number_of(c, t):
+    """Where the number stands by which an answered access is judged, and its lowest and highest."""
+    if c.outcome[t] == columns.VALUE:
+        return "value", columns.RESULTS[c.operation[t]][columns.VALUE]
+    return "argument", reading.OPERATIONS[chr(c.kind[c.object[t]])][c.operation[t]]
+
+
+def around_number(c, chance):
+    """Held beside one that asks, the number just below the asking one's, equal to it and just above: in form, and judged by the conflict table."""
+    store = columns.store_of(c)
+    asked = {t: reading.answered(store.transactions[t], store.result_of(t)) for t in asking(c)}
+    beside = [(t, held) for t in asked for held in on_lists(c) if c.object[held] == c.object[t] and c.holder[held] not in path(c, t)]
+    for t, held in one_of_each(beside, lambda pair: (asked[pair[0]].answer_class, c.operation[pair[1]], c.outcome[pair[1]])):
+        field, limits = number_of(c, held)
+        for number in range(asked[t].number - 1, asked[t].number + 2):
+            if reading.within(number, limits):
+                yield f"{field} of {held} is {number}, as {t} asks", None, [(field, held, number)]
+
+
 def around_list(c, chance):
     def where(t):
         return c.holder[t] == t, c.holder[t] == c.parent[t], c.holder[t] == 0
@@ -561,6 +598,7 @@ AROUND = {
     "work": around_work,
     "state": around_state,
     "result": around_result,
+    "number": around_number,
     "list": around_list,
     "unanswered": around_unanswered,
     "order": around_order,

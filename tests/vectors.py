@@ -118,7 +118,7 @@ def many_objects():
     for i in range(192):
         o, job = i * 29 % 64, i // 64
         operation = works[job][o % 2]
-        calls.append("U %d %d %d %d" % (job + 1, o, operation, 0 if operation in (BALANCE, READ) else 40 + o))
+        calls.append("U %d %d %d %d" % (job + 1, o, operation, 0 if operation in (BALANCE, READ) else 40 + o + job))
     for last in ("B 2", "B 3", "N 0"):
         calls += ["G %d" % (4 + i * 35 % 192) for i in range(192)]
         calls += ["C %d" % (4 + i * 47 % 192) for i in range(192)]
@@ -147,9 +147,9 @@ UNSIGNED = [0, 1, 5, 1000000, 1000001, 4294967295]
 SIGNED = UNSIGNED + [-1, -5, -1000000, -1000001, -4294967295]
 
 
-def mixed(seed, objects, reach, operations=7, arguments=UNSIGNED):
-    """4,096 calls. Most are sensible where they stand, on one of the latest `reach` transactions; some are anything at all, of so many
-    operations and of these arguments."""
+def mixed(seed, objects, reach, operations=7, arguments=UNSIGNED, amounts=20):
+    """4,096 calls. Most are sensible where they stand, on one of the latest `reach` transactions, with one of so many amounts; some are
+    anything at all, of so many operations and of these arguments."""
     chance, calls = Chance(seed), []
     store = Store()
     store.open([(text[0], int(text[2:])) for text in objects])
@@ -180,7 +180,7 @@ def mixed(seed, objects, reach, operations=7, arguments=UNSIGNED):
         elif operation == ADJUST:
             argument = chance.below(7) - 3
         else:
-            argument = 1 + chance.below(20)
+            argument = 1 + chance.below(amounts)
         return ("U", chance.of(plain + [0]), o, operation, argument)
 
     def anything():
@@ -219,6 +219,7 @@ FILES = {
     "mixed-two-objects": mixed(1, ["A 10", "R 7"], 12),
     "mixed-eight-objects": mixed(9, ["A 10", "R 7", "A 0", "R 0", "A 1000000000", "R 1000000000", "A 30", "A 5"], 30),
     "mixed-counters": mixed(3, ["K -5", "A 10", "K 1000000000", "R 7", "K -1000000000"], 20, 9, SIGNED),
+    "mixed-equal-numbers": mixed(12, ["R 1", "A 2", "R 2", "A 0", "R 3"], 16, amounts=3),
 }
 
 
