@@ -1,20 +1,17 @@
-// The account: which operations it takes, what each does, its recorded outcomes and its classes of answer.
+// The account: which operations it takes, what each does, the results that each allows and its classes of answer.
 ghost use mathlib.Core.Path.{_≡_};
-ghost use Rattle.kinds.specs.Account.{decodeOf, stepOf, Room, recallOf, classOf};
+ghost use Rattle.kinds.specs.Account.{decodeOf, stepOf, Room, shapeOf, classOf};
 use kinds::Account;
 use kinds::AccountOperation;
 use kinds::Class;
 use kinds::Decoded;
-use kinds::Numbers;
 use kinds::Operation;
 use kinds::Outcome;
-use kinds::Recalled;
+use kinds::Shape;
 use kinds::State;
 use kinds::Stepped;
 use kinds::range::Ranged;
 use kinds::range::within;
-use kinds::with_value;
-use kinds::without_value;
 
 pub fn decode(operation: u32, argument: i64) -> Decoded
     ensures { λ r. ⌜ r ≡ decodeOf operation argument ⌝ }
@@ -70,23 +67,13 @@ pub fn step(account: Account, operation: AccountOperation) -> Stepped
     }
 }
 
-pub fn recall(operation: AccountOperation, a: u32, b: i64) -> Recalled
-    ensures { λ r. ⌜ r ≡ recallOf operation a b ⌝ }
+pub fn shape_of(operation: AccountOperation) -> Shape
+    ensures { λ r. ⌜ r ≡ shapeOf operation ⌝ }
 {
     match operation {
-        AccountOperation::Balance => match a {
-            Numbers::VALUE => with_value(b, Account::ANSWER_LEAST, Account::ANSWER_MOST),
-            _ => Recalled::Unshaped,
-        },
-        AccountOperation::Deposit(_) => match a {
-            Numbers::OK => without_value(Outcome::Ok, b),
-            _ => Recalled::Unshaped,
-        },
-        AccountOperation::Withdraw(_) => match a {
-            Numbers::OK => without_value(Outcome::Ok, b),
-            Numbers::FAIL => without_value(Outcome::Fail, b),
-            _ => Recalled::Unshaped,
-        },
+        AccountOperation::Balance => Shape::Between(Account::ANSWER_LEAST, Account::ANSWER_MOST),
+        AccountOperation::Deposit(_) => Shape::Done,
+        AccountOperation::Withdraw(_) => Shape::DoneOrFailed,
     }
 }
 

@@ -1,22 +1,19 @@
-// The counter: which operations it takes, what each does, its recorded outcomes and its classes of answer.
+// The counter: which operations it takes, what each does, the results that each allows and its classes of answer.
 ghost use mathlib.Core.Path.{_≡_};
-ghost use Rattle.kinds.specs.Counter.{decodeOf, stepOf, Room, recallOf, classOf};
+ghost use Rattle.kinds.specs.Counter.{decodeOf, stepOf, Room, shapeOf, classOf};
 use kinds::Class;
 use kinds::Counter;
 use kinds::CounterOperation;
 use kinds::Decoded;
-use kinds::Numbers;
 use kinds::Operation;
 use kinds::Outcome;
-use kinds::Recalled;
+use kinds::Shape;
 use kinds::State;
 use kinds::Stepped;
 use kinds::range::Ranged;
 use kinds::range::SignedRanged;
 use kinds::range::within;
 use kinds::range::within_signed;
-use kinds::with_value;
-use kinds::without_value;
 
 pub fn decode(operation: u32, argument: i64) -> Decoded
     ensures { λ r. ⌜ r ≡ decodeOf operation argument ⌝ }
@@ -55,18 +52,12 @@ pub fn step(counter: Counter, operation: CounterOperation) -> Stepped
     }
 }
 
-pub fn recall(operation: CounterOperation, a: u32, b: i64) -> Recalled
-    ensures { λ r. ⌜ r ≡ recallOf operation a b ⌝ }
+pub fn shape_of(operation: CounterOperation) -> Shape
+    ensures { λ r. ⌜ r ≡ shapeOf operation ⌝ }
 {
     match operation {
-        CounterOperation::Adjust(_) => match a {
-            Numbers::OK => without_value(Outcome::Ok, b),
-            _ => Recalled::Unshaped,
-        },
-        CounterOperation::Count => match a {
-            Numbers::VALUE => with_value(b, Counter::ANSWER_LEAST, Counter::ANSWER_MOST),
-            _ => Recalled::Unshaped,
-        },
+        CounterOperation::Adjust(_) => Shape::Done,
+        CounterOperation::Count => Shape::Between(Counter::ANSWER_LEAST, Counter::ANSWER_MOST),
     }
 }
 

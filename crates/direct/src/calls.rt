@@ -11,6 +11,8 @@ pub(crate) const REGISTER: u32 = 1;
 
 pub(crate) const COUNTER: u32 = 2;
 
+pub(crate) const BIN: u32 = 3;
+
 pub(crate) const BALANCE: u32 = 1;
 
 pub(crate) const DEPOSIT: u32 = 2;
@@ -25,15 +27,24 @@ pub(crate) const ADJUST: u32 = 6;
 
 pub(crate) const COUNT: u32 = 7;
 
+pub(crate) const PUT: u32 = 8;
+
+pub(crate) const TAKE: u32 = 9;
+
+pub(crate) const LOOK: u32 = 10;
+
+// One more than a file can write; the last 32 of its bits are those of 0.
+pub(crate) const BEYOND: i64 = 4_294_967_296;
+
 // The last numbers of 64 bits, far beyond what a file can write.
 pub(crate) const LOWEST: i64 = -9_223_372_036_854_775_808;
 
 pub(crate) const HIGHEST: i64 = 9_223_372_036_854_775_807;
 
-// The store that each starts with: `A 10` is object 0, `R 7` object 1, `K -7` object 2.
+// The store that each starts with: `A 10` is object 0, `R 7` object 1, `K -7` object 2, `S 5` object 3.
 pub(crate) fn begin(heading: &[u8]) -> Store {
     print(heading);
-    shown(Store::open(b"ARK", &[10, 7, -7]))
+    shown(Store::open(b"ARKS", &[10, 7, -7, 5]))
 }
 
 pub(crate) fn plain(s: Store, parent: u32) -> Store {

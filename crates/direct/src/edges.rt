@@ -2,13 +2,18 @@
 use crate::calls::ACCOUNT;
 use crate::calls::ADJUST;
 use crate::calls::BALANCE;
+use crate::calls::BEYOND;
+use crate::calls::BIN;
 use crate::calls::COUNT;
 use crate::calls::COUNTER;
 use crate::calls::DEPOSIT;
 use crate::calls::HIGHEST;
+use crate::calls::LOOK;
 use crate::calls::LOWEST;
+use crate::calls::PUT;
 use crate::calls::READ;
 use crate::calls::REGISTER;
+use crate::calls::TAKE;
 use crate::calls::WITHDRAW;
 use crate::calls::WRITE;
 use crate::calls::abort;
@@ -28,7 +33,10 @@ pub(crate) fn far_arguments() {
     s = access(s, 0, REGISTER, WRITE, HIGHEST);
     s = access(s, 0, COUNTER, ADJUST, LOWEST);
     s = access(s, 0, COUNTER, ADJUST, HIGHEST);
-    access(s, 0, COUNTER, COUNT, LOWEST);
+    s = access(s, 0, COUNTER, COUNT, LOWEST);
+    s = access(s, 0, BIN, PUT, BEYOND);
+    s = access(s, 0, BIN, TAKE, LOWEST);
+    access(s, 0, BIN, LOOK, HIGHEST);
 }
 
 // Every call once: 15.

@@ -5,6 +5,7 @@ ghost use Prim.Native.Nat.{_≤_};
 ghost use lib.ListN.{length};
 use crate::calls::ACCOUNT;
 use crate::calls::BALANCE;
+use crate::calls::BEYOND;
 use crate::calls::HIGHEST;
 use crate::calls::LOWEST;
 use crate::calls::abort;
@@ -56,6 +57,8 @@ pub(crate) fn openings() {
     open_alike(b'R', LOWEST, 1, 1);
     open_alike(b'K', LOWEST, 1, 1);
     open_alike(b'K', HIGHEST, 1, 1);
+    open_alike(b'S', BEYOND, 1, 1);
+    open_alike(b'S', LOWEST, 1, 1);
     open_alike(b'B', 10, 1, 1);
     open_alike(b'A', 10, 65, 65);
     open_alike(b'A', 10, 1, 2);

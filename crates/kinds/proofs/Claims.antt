@@ -19,9 +19,10 @@ use Rattle.kinds.specs.Table.{entry}
 use Rattle.kinds.specs.Account as A
 use Rattle.kinds.specs.Register as R
 use Rattle.kinds.specs.Counter as K
-use Rattle.kinds.specs.Object.{StateOf, account, register, counter, objectOf, opOf, AllFit}
+use Rattle.kinds.specs.Bin as B
+use Rattle.kinds.specs.Object.{StateOf, account, register, counter, bin, objectOf, opOf, AllFit}
 use Rattle.kinds.specs.declared.Kind.{Kind}
-use Rattle.kinds.specs.declared.Kind.the-variants.{Account, Register, Counter, Unknown}
+use Rattle.kinds.specs.declared.Kind.the-variants.{Account, Register, Counter, Bin, Unknown}
 use Rattle.kinds.specs.declared.account.AccountOperation.the-variants.{Balance, Withdraw}
 use Rattle.kinds.specs.declared.register.RegisterOperation.the-variants.{Read, Write}
 use Rattle.kinds.specs.declared.counter.CounterOperation.the-variants.{Adjust, Count}
@@ -42,6 +43,7 @@ use Rattle.kinds.proofs.Exactly.{Exact}
 use Rattle.kinds.proofs.account.Exact as account-exact
 use Rattle.kinds.proofs.register.Exact as register-exact
 use Rattle.kinds.proofs.counter.Exact as counter-exact
+use Rattle.kinds.proofs.bin.Exact as bin-exact
 
 nothing-fits : {o : Operation} → Unfit ≡ Fit o → ⊥
 nothing-fits e = let z : _≡_ {A = ℕ} 0 1 = cc in omega arith
@@ -50,6 +52,7 @@ exact : (kind : Kind) → Exact kind
 exact Account = account-exact.exact
 exact Register = register-exact.exact
 exact Counter = counter-exact.exact
+exact Bin = bin-exact.exact
 exact Unknown = record { passes = λ p q e. absurd (true≢false e); caused = λ p q e hp hq. absurd (nothing-fits (hp .fits .2)) }
 
 -- What the table passes swaps in any state at all, those that the kind does not have among them.
@@ -67,6 +70,7 @@ same-value : {kind : Kind} {s t : State} → StateOf kind s → StateOf kind t �
 same-value account account e = ap (λ z. A.accountOf (natAbs z)) e
 same-value (register h) (register k) e = ap (λ z. R.registerOf (natAbs z)) e
 same-value counter counter e = ap K.counterOf e
+same-value (bin h) (bin k) e = ap (λ z. B.binOf (natAbs z)) e
 
 pub sole-cause : (kind : Kind) (p q : Answered) (s t : State) → SmallestCause kind p q s → SmallestCause kind p q t → s ≡ t
 sole-cause kind p q s t a b =
@@ -160,9 +164,10 @@ pub alike-is-same : (kind : Kind) → AlikeIsSame (objectOf kind)
 alike-is-same kind s t (account {n}) (account {n = m}) alike = ap A.accountOf (account-exact.same n m alike)
 alike-is-same kind s t (register {n} h) (register {n = m} k) alike = ap R.registerOf (register-exact.same n m alike)
 alike-is-same kind s t (counter {z}) (counter {z = y}) alike = ap K.counterOf (counter-exact.same z y alike)
+alike-is-same kind s t (bin {n} h) (bin {n = m} k) alike = ap B.binOf (bin-exact.same n m alike)
 
 -- Document 01: no balance can exceed the largest opening and 1,024 deposits of the largest size; request Q-1: a count stays as far within either side of
--- zero. From an accepted opening, after at most 1,024 operations that `decode` lets through, the object is in a state of its kind and within its bound.
+-- zero; request Q-3: a bin has parts 0 to 31 and no other (`no-other-parts`, bin/Claims.antt). From an accepted opening, after at most 1,024 operations that `decode` lets through, the object is in a state of its kind and within its bound.
 pub largest-balance : A.openingMost + 1024 * A.amountMost ≡ A.balanceMost
 largest-balance = refl
 
@@ -173,7 +178,7 @@ pub stays-bounded : (kind : Kind) (x : ℤ) (s : State) (l : List (Op (objectOf 
     → StateOf kind (run (objectOf kind) s l) × Bounded (run (objectOf kind) s l)
 stays-bounded kind x s l e t h = grown-has kind (0 + length l) (run (objectOf kind) s l) (run-grown kind l s 0 t (opened-grown kind x s e)) (rw zero-add h)
 
--- No sum can wrap: within its bound the object has room for what `decode` lets through.
+-- No sum can wrap, and every part has a digit: within its bound the object has room for what `decode` lets through.
 pub no-sum-wraps : (kind : Kind) (k : ℕ) (x : ℤ) (o : Operation) (s : State) → decodeOf kind k x ≡ Fit o → Bounded s → Room s o
 no-sum-wraps kind k x o s e = takes-room kind o s (decoded-takes kind k x o e)
 

@@ -1,6 +1,6 @@
 -- A square table of rules, kept as rows: one test that antt computes over the whole table, and what it says at every row and column.
 use mathlib.Core.Path.{_≡_, refl, sym, ap, _∙_}
-use mathlib.Core.Bool.{Bool, true, _&&_, and-eq-true-iff, or-comm}
+use mathlib.Core.Bool.{Bool, true, not, _&&_, and-eq-true-iff, or-comm}
 use mathlib.Core.Logic.{⊎-elim}
 use mathlib.Core.List.{List, [], _∷_}
 use Prim.Native.Nat.{ℕ, zero, suc, _<_, _≤_}
@@ -16,11 +16,11 @@ use Rattle.below.proofs.Tests.{le-or}
 use Rattle.kinds.specs.Kinds.{tableOf}
 use Rattle.kinds.specs.Table.{entry, judge, verdict}
 use Rattle.kinds.specs.declared.Kind.{Kind}
-use Rattle.kinds.specs.declared.Kind.the-variants.{Account, Register, Counter, Unknown}
+use Rattle.kinds.specs.declared.Kind.the-variants.{Account, Register, Counter, Bin, Unknown}
 use Rattle.kinds.specs.declared.table.Class.{Class}
 use Rattle.kinds.specs.declared.table.Class.the-variants.{Row, None}
 use Rattle.kinds.specs.declared.table.Rule.{Rule}
-use Rattle.kinds.specs.declared.table.Rule.the-variants.{Pass, Conflict, UnlessEqual, IfAtLeast, IfAtMost}
+use Rattle.kinds.specs.declared.table.Rule.the-variants.{Pass, Conflict, UnlessEqual, IfEqual, IfAtLeast, IfAtMost}
 
 -- inside a list the default is of no account
 default-free : {A : Type 0} (l : List A) (k : ℕ) (d e : A) → k < length l → getD l k d ≡ getD l k e
@@ -36,6 +36,7 @@ abbrev pub size : Kind → ℕ
 size Account = 4
 size Register = 2
 size Counter = 2
+size Bin = 4
 size Unknown = 0
 
 pub sized : (kind : Kind) → square (size kind) (tableOf kind) ≡ true
@@ -43,6 +44,7 @@ unfolding allBelow
 sized Account = refl
 sized Register = refl
 sized Counter = refl
+sized Bin = refl
 sized Unknown = refl
 
 module _ (rows : List (List Rule)) (n : ℕ) (full : square n rows ≡ true) where
@@ -74,6 +76,7 @@ abbrev turned : Rule → Rule
 turned Pass = Pass
 turned Conflict = Conflict
 turned UnlessEqual = UnlessEqual
+turned IfEqual = IfEqual
 turned IfAtLeast = IfAtMost
 turned IfAtMost = IfAtLeast
 
@@ -81,6 +84,7 @@ turned-judges : (r : Rule) (k l : ℤ) → judge (turned r) k l ≡ judge r l k
 turned-judges Pass k l = refl
 turned-judges Conflict k l = refl
 turned-judges UnlessEqual k l = or-comm (ltZ k l) (ltZ l k)
+turned-judges IfEqual k l = ap not (or-comm (ltZ k l) (ltZ l k))
 turned-judges IfAtLeast k l = refl
 turned-judges IfAtMost k l = refl
 
@@ -89,20 +93,23 @@ abbrev number : Rule → ℕ
 number Pass = 0
 number Conflict = 1
 number UnlessEqual = 2
-number IfAtLeast = 3
-number IfAtMost = 4
+number IfEqual = 3
+number IfAtLeast = 4
+number IfAtMost = 5
 
 abbrev named : ℕ → Rule
 named zero = Pass
 named (suc zero) = Conflict
 named (suc (suc zero)) = UnlessEqual
-named (suc (suc (suc zero))) = IfAtLeast
-named (suc (suc (suc (suc n)))) = IfAtMost
+named (suc (suc (suc zero))) = IfEqual
+named (suc (suc (suc (suc zero)))) = IfAtLeast
+named (suc (suc (suc (suc (suc n))))) = IfAtMost
 
 named-number : (r : Rule) → named (number r) ≡ r
 named-number Pass = refl
 named-number Conflict = refl
 named-number UnlessEqual = refl
+named-number IfEqual = refl
 named-number IfAtLeast = refl
 named-number IfAtMost = refl
 
@@ -135,4 +142,5 @@ unfolding allBelow entry
 mirror Account = refl
 mirror Register = refl
 mirror Counter = refl
+mirror Bin = refl
 mirror Unknown = refl

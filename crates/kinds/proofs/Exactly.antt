@@ -25,7 +25,7 @@ use Rattle.kinds.proofs.Takes.{Takes, decoded-takes}
 
 -- A kind in these terms: what its states are made of, its own operations, an answer of each class by its row and its key, the answer's form, and for two
 -- answers the state at which they differ, if they conflict.
-pub record Shape (kind : Kind) : Type 1 where
+pub record Terms (kind : Kind) : Type 1 where
   pub N : Type 0
   pub O : Type 0
   pub make : N → State
@@ -34,7 +34,7 @@ pub record Shape (kind : Kind) : Type 1 where
   pub form : {a : ℕ} {k : ℤ} {o : O} {r : Outcome} → Seen a k o r → forms.Form (objectOf kind) make (record { ask = ask o; reply = r })
   pub witness : O → Outcome → O → Outcome → N
 
-module _ {kind : Kind} (s : Shape kind) where
+module _ {kind : Kind} (s : Terms kind) where
   abbrev answered : s .O → Outcome → Answered
   answered o r = record { operation = s .ask o; outcome = r }
 
@@ -159,7 +159,7 @@ pub record Exact (kind : Kind) : Type 0 where
   pub caused : (p q : Answered) → Caused kind p q
 
 -- What is asked of it; at every entry the table stands for what the forms say.
-module _ {kind : Kind} (s : Shape kind)
+module _ {kind : Kind} (s : Terms kind)
     (same : (n m : s .N) → Alike (objectOf kind) (s .make n) (s .make m) → n ≡ m)
     (made : (t : State) → StateOf kind t → Made s t)
     (placed : (t : State) → Placed s t)

@@ -9,8 +9,10 @@ use lib.Dec.{eqb}
 use borrow.Author.Tests.{eqb-true}
 use Rattle.below.proofs.Tests.{bool-or}
 use Rattle.kinds.specs.Kinds.{decodeOf}
+use Rattle.kinds.specs.Bin.{partMost, operationOn}
+use Rattle.kinds.proofs.Within.{ranged}
 use Rattle.kinds.specs.declared.Kind.{Kind}
-use Rattle.kinds.specs.declared.Kind.the-variants.{Account, Register, Counter, Unknown}
+use Rattle.kinds.specs.declared.Kind.the-variants.{Account, Register, Counter, Bin, Unknown}
 use Rattle.kinds.specs.declared.Operation.{Operation}
 use Rattle.kinds.specs.declared.Decoded.{Decoded}
 use Rattle.kinds.specs.declared.Decoded.the-variants.{Fit, Unfit}
@@ -32,6 +34,9 @@ numbers-if Account k x =
     one-of k 1 _ _ (omega arith) (omega arith) (one-of k 2 _ _ (omega arith) (omega arith) (one-of k 3 _ _ (omega arith) (omega arith) tt))
 numbers-if Register k x = one-of k 4 _ _ (omega arith) (omega arith) (one-of k 5 _ _ (omega arith) (omega arith) tt)
 numbers-if Counter k x = one-of k 6 _ _ (omega arith) (omega arith) (one-of k 7 _ _ (omega arith) (omega arith) tt)
+numbers-if Bin k x =
+    ranged (NumberIf k) (operationOn k) Unfit x 0 partMost
+    (λ i l h. one-of k 8 _ _ (omega arith) (omega arith) (one-of k 9 _ _ (omega arith) (omega arith) (one-of k 10 _ _ (omega arith) (omega arith) tt))) tt
 numbers-if Unknown k x = tt
 
 pub fit-number : (kind : Kind) (k : ℕ) (x : ℤ) (o : Operation) → decodeOf kind k x ≡ Fit o → (0 < k) × (k < 256)

@@ -1,6 +1,6 @@
 -- Keys that are equal, and what the machine's comparison says of them.
 use mathlib.Core.Path.{_≡_, refl, sym, ap, _∙_}
-use mathlib.Core.Bool.{Bool, true, false, not, _||_, true≢false}
+use mathlib.Core.Bool.{Bool, true, false, not, _||_, true≢false, Bool·not-not}
 use native.Mathlib.Omega.{arith}
 use lib.IntN.{ℤ, pos, negsuc}
 use lib.Signed.{ltZ, leZ}
@@ -38,7 +38,7 @@ not-above-itself (pos n) = le-leb n n (omega arith)
 not-above-itself (negsuc n) = le-leb n n (omega arith)
 
 module _ (k l : ℤ) (fk : SFits w64 k) (fl : SFits w64 l) where
-  same-bits : ofZ w64 k ≡ ofZ w64 l → k ≡ l
+  pub same-bits : ofZ w64 k ≡ ofZ w64 l → k ≡ l
   same-bits e = sym (toZ-ofZ {w = w64} fk) ∙ ap (toZ w64) e ∙ toZ-ofZ {w = w64} fl
 
   decide : (b d : Bool) → eqb (ofZ w64 k) (ofZ w64 l) ≡ b → (ltZ k l || ltZ l k) ≡ d → not b ≡ d
@@ -50,3 +50,6 @@ module _ (k l : ℤ) (fk : SFits w64 k) (fl : SFits w64 l) where
   -- the machine compares the bits
   pub unequal : not (eqb (ofZ w64 k) (ofZ w64 l)) ≡ (ltZ k l || ltZ l k)
   unequal = decide (eqb (ofZ w64 k) (ofZ w64 l)) (ltZ k l || ltZ l k) refl refl
+
+  pub equal : eqb (ofZ w64 k) (ofZ w64 l) ≡ not (ltZ k l || ltZ l k)
+  equal = sym (Bool·not-not (eqb (ofZ w64 k) (ofZ w64 l))) ∙ ap not unequal

@@ -3,6 +3,7 @@ pub mod Outcomes
 pub mod Keys
 pub mod Entries
 pub mod Sizes
+pub mod Digits
 pub mod Takes
 pub mod Gives
 pub mod Exactly

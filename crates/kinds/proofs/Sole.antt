@@ -18,6 +18,9 @@ register-opened κs a x y s t = sole
 counter-opened : Sole 0 of.counter.Counter.opened.Kinds.ps of.counter.Counter.opened.Kinds.r of.counter.Counter.opened.Reads.Learnt
 counter-opened κs a x y s t = sole
 
+bin-opened : Sole 0 of.bin.Bin.opened.Kinds.ps of.bin.Bin.opened.Kinds.r of.bin.Bin.opened.Reads.Learnt
+bin-opened κs a x y s t = sole
+
 account-rule-of : Sole 0 of.account.Account.rule_of.Kinds.ps of.account.Account.rule_of.Kinds.r of.account.Account.rule_of.Reads.Learnt
 account-rule-of κs a x y s t = sole
 
@@ -27,14 +30,14 @@ register-rule-of κs a x y s t = sole
 counter-rule-of : Sole 0 of.counter.Counter.rule_of.Kinds.ps of.counter.Counter.rule_of.Kinds.r of.counter.Counter.rule_of.Reads.Learnt
 counter-rule-of κs a x y s t = sole
 
+bin-rule-of : Sole 0 of.bin.Bin.rule_of.Kinds.ps of.bin.Bin.rule_of.Kinds.r of.bin.Bin.rule_of.Reads.Learnt
+bin-rule-of κs a x y s t = sole
+
 judge : Sole 0 of.table.Rule.judge.Kinds.ps of.table.Rule.judge.Kinds.r of.table.Rule.judge.Reads.Learnt
 judge κs a x y s t = sole
 
 numbers-of : Sole 0 of.outcome.numbers_of.Kinds.ps of.outcome.numbers_of.Kinds.r of.outcome.numbers_of.Reads.Learnt
 numbers-of κs a x y s t = sole
 
-with-value : Sole 0 of.outcome.with_value.Kinds.ps of.outcome.with_value.Kinds.r of.outcome.with_value.Reads.Learnt
-with-value κs a x y s t = sole
-
-without-value : Sole 0 of.outcome.without_value.Kinds.ps of.outcome.without_value.Kinds.r of.outcome.without_value.Reads.Learnt
-without-value κs a x y s t = sole
+recall : Sole 0 of.outcome.Shape.recall.Kinds.ps of.outcome.Shape.recall.Kinds.r of.outcome.Shape.recall.Reads.Learnt
+recall κs a x y s t = sole

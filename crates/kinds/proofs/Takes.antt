@@ -2,7 +2,7 @@
 use mathlib.Core.Path.{_≡_, refl}
 use mathlib.Core.Bool.{true}
 use mathlib.Core.Logic.{⊎-elim}
-use Prim.Native.Nat.{ℕ, suc, _+_, _-_, _≤_}
+use Prim.Native.Nat.{ℕ, suc, _+_, _-_, _^_, _≤_}
 use mathlib.Core.List.{List, [], _∷_}
 use lib.ListN.{length}
 use native.Mathlib.Nat.{add-zero}
@@ -18,12 +18,15 @@ use Rattle.kinds.specs.Outcome.{numbersOf, withValue}
 use Rattle.kinds.specs.Account as A
 use Rattle.kinds.specs.Register as R
 use Rattle.kinds.specs.Counter as K
-use Rattle.kinds.specs.Object.{StateOf, account, register, counter, objectOf, AllFit, Grown, upto, kept, aside}
+use Rattle.kinds.specs.Bin as B
+use Rattle.kinds.specs.Object.{StateOf, account, register, counter, bin, objectOf, AllFit, Grown, upto, kept, aside, within}
 use Rattle.kinds.specs.declared.Kind.{Kind}
-use Rattle.kinds.specs.declared.Kind.the-variants.{Account, Register, Counter, Unknown}
+use Rattle.kinds.specs.declared.Kind.the-variants.{Account, Register, Counter, Bin, Unknown}
 use Rattle.kinds.specs.declared.account.AccountOperation.the-variants.{Balance, Deposit, Withdraw}
 use Rattle.kinds.specs.declared.register.RegisterOperation.the-variants.{Read, Write}
 use Rattle.kinds.specs.declared.counter.CounterOperation.the-variants.{Adjust, Count}
+use Rattle.kinds.specs.declared.bin.BinOperation.{BinOperation}
+use Rattle.kinds.specs.declared.bin.BinOperation.the-variants.{Put, Take, Look}
 use Rattle.kinds.specs.declared.State.{State}
 use Rattle.kinds.specs.declared.State.the-variants as S
 use Rattle.kinds.specs.declared.Operation.{Operation}
@@ -35,6 +38,7 @@ use Rattle.kinds.specs.declared.Decoded.the-variants.{Fit, Unfit}
 use Rattle.kinds.specs.declared.outcome.Outcome.the-variants.{Value}
 use Rattle.kinds.specs.declared.outcome.Recalled.the-variants.{Given}
 use Rattle.kinds.proofs.Within.{ranged, either}
+use Rattle.kinds.proofs.Digits.{by-part, put-fits}
 use Rattle.kinds.proofs.Sizes.{sum-size, above-least, below-most, either-sided}
 
 pub data Takes : Kind → Operation → Type 0 where
@@ -45,6 +49,9 @@ pub data Takes : Kind → Operation → Type 0 where
   write : {n : ℕ} → n ≤ R.valueMost → Takes Register (O.Register (Write n))
   adjust : {z : ℤ} → natAbs z ≤ K.adjustmentMost → Takes Counter (O.Counter (Adjust z))
   count : Takes Counter (O.Counter Count)
+  put : {i : ℕ} → i ≤ B.partMost → Takes Bin (O.Bin (Put i))
+  take : {i : ℕ} → i ≤ B.partMost → Takes Bin (O.Bin (Take i))
+  look : {i : ℕ} → i ≤ B.partMost → Takes Bin (O.Bin (Look i))
 
 abbrev TakesIf : Kind → Decoded → Type 0
 TakesIf kind (Fit o) = Takes kind o
@@ -61,28 +68,43 @@ takes-if Register k x =
 takes-if Counter k x =
     either (TakesIf Counter) (eqb k 6) _ _ (either-sided (TakesIf Counter) (λ z. Fit (O.Counter (Adjust z))) Unfit x K.adjustmentMost (λ h. adjust {z = x} h) tt)
     (either (TakesIf Counter) (eqb k 7) _ _ (ranged (TakesIf Counter) (λ n. Fit (O.Counter Count)) Unfit x 0 0 (λ n l h. count) tt) tt)
+takes-if Bin k x =
+    ranged (TakesIf Bin) (B.operationOn k) Unfit x 0 B.partMost
+    (λ i l h. either (TakesIf Bin) (eqb k 8) _ _ (put h) (either (TakesIf Bin) (eqb k 9) _ _ (take h) (either (TakesIf Bin) (eqb k 10) _ _ (look h) tt))) tt
 takes-if Unknown k x = tt
 
 pub decoded-takes : (kind : Kind) (k : ℕ) (x : ℤ) (o : Operation) → decodeOf kind k x ≡ Fit o → Takes kind o
 decoded-takes kind k x o e = rw e at (takes-if kind k x)
 
--- a deposit or an adjustment that is taken fits
+-- a deposit or an adjustment that is let through fits, and a part that is has its digit
+deposit-most : {kind : Kind} {n : ℕ} → Takes kind (O.Account (Deposit n)) → n ≤ A.amountMost
+deposit-most (deposit l h) = h
+
+adjustment-most : {kind : Kind} {z : ℤ} → Takes kind (O.Counter (Adjust z)) → natAbs z ≤ K.adjustmentMost
+adjustment-most (adjust h) = h
+
+pub part-most : {kind : Kind} {o : BinOperation} → Takes kind (O.Bin o) → B.Room o
+part-most (put h) = h
+part-most (take h) = h
+part-most (look h) = h
+
 pub takes-room : (kind : Kind) (o : Operation) (s : State) → Takes kind o → Bounded s → Room s o
-takes-room kind o (S.Account a) balance h = tt
-takes-room kind o (S.Account a) (deposit l m) h = omega arith
-takes-room kind o (S.Account a) (withdraw l m) h = tt
-takes-room kind o (S.Account a) read h = tt
-takes-room kind o (S.Account a) (write m) h = tt
-takes-room kind o (S.Account a) (adjust m) h = tt
-takes-room kind o (S.Account a) count h = tt
+takes-room kind (O.Account Balance) (S.Account a) t h = tt
+takes-room kind (O.Account (Deposit n)) (S.Account a) t h = omega (arith, deposit-most t)
+takes-room kind (O.Account (Withdraw n)) (S.Account a) t h = tt
+takes-room kind (O.Register o) (S.Account a) t h = tt
+takes-room kind (O.Counter o) (S.Account a) t h = tt
+takes-room kind (O.Bin o) (S.Account a) t h = tt
 takes-room kind o (S.Register v) t h = tt
-takes-room kind o (S.Counter c) balance h = tt
-takes-room kind o (S.Counter c) (deposit l m) h = tt
-takes-room kind o (S.Counter c) (withdraw l m) h = tt
-takes-room kind o (S.Counter c) read h = tt
-takes-room kind o (S.Counter c) (write m) h = tt
-takes-room kind o (S.Counter c) (adjust {z} m) h = omega (arith, sum-size (c .count) z)
-takes-room kind o (S.Counter c) count h = tt
+takes-room kind (O.Account o) (S.Counter c) t h = tt
+takes-room kind (O.Register o) (S.Counter c) t h = tt
+takes-room kind (O.Counter (Adjust z)) (S.Counter c) t h = omega (arith, sum-size (c .count) z, adjustment-most t)
+takes-room kind (O.Counter Count) (S.Counter c) t h = tt
+takes-room kind (O.Bin o) (S.Counter c) t h = tt
+takes-room kind (O.Account o) (S.Bin b) t h = tt
+takes-room kind (O.Register o) (S.Bin b) t h = tt
+takes-room kind (O.Counter o) (S.Bin b) t h = tt
+takes-room kind (O.Bin o) (S.Bin b) t h = part-most t
 
 -- a value in its range is read back
 value-recalled : (v low high : ℤ) → leZ low v ≡ true → leZ v high ≡ true → withValue v low high ≡ Given (Value v)
@@ -98,12 +120,16 @@ takes-recalled kind o s (register {n} b) read h = value-recalled (pos n) (pos 0)
 takes-recalled kind o s (register b) (write m) h = refl
 takes-recalled kind o s counter (adjust m) h = refl
 takes-recalled kind o s (counter {z}) count h = value-recalled z (negℤ (pos K.countBound)) (pos K.countBound) (above-least z K.countBound h) (below-most z K.countBound h)
+takes-recalled kind o s (bin {n} b) (put {i} m) h = by-part n i (λ e. rw e) (λ e. rw e)
+takes-recalled kind o s (bin {n} b) (take {i} m) h = by-part n i (λ e. rw e) (λ e. rw e)
+takes-recalled kind o s (bin {n} b) (look {i} m) h = by-part n i (λ e. rw e) (λ e. rw e)
 
 -- what has grown by at most k has by at most one more
 pub grown-more : (kind : Kind) (k : ℕ) (s : State) → Grown kind k s → Grown kind (suc k) s
 grown-more kind i s (upto n k h) = upto n (suc k) (omega arith)
 grown-more kind i s (kept n k h) = kept n (suc k) h
 grown-more kind i s (aside z k h) = aside z (suc k) (omega arith)
+grown-more kind i s (within n k h) = within n (suc k) h
 
 -- a step keeps the kind's states, and grows by one deposit or adjustment at most
 pub takes-grown : (kind : Kind) (o : Operation) (s : State) (k : ℕ) → Grown kind k s → Takes kind o → Grown kind (suc k) (stepOf s o .state)
@@ -115,11 +141,17 @@ takes-grown kind o s i (kept n k h) read = grown-more kind k (R.registerOf n) (k
 takes-grown kind o s i (kept n k h) (write {n = m} r) = kept m (suc k) r
 takes-grown kind o s i (aside z k h) (adjust {z = y} m) = aside (z +ℤ y) (suc k) (omega (arith, sum-size z y))
 takes-grown kind o s i (aside z k h) count = grown-more kind k (K.counterOf z) (aside z k h)
+takes-grown kind o s j (within n k h) (put {i} m) =
+    by-part n i (λ e. rw e (within n (suc k) h)) (λ e. rw e (within (n + 2 ^ i) (suc k) (omega (arith, put-fits n i 32 e (omega arith) (omega arith)))))
+takes-grown kind o s j (within n k h) (take {i} m) =
+    by-part n i (λ e. rw e (within (n - 2 ^ i) (suc k) (omega arith))) (λ e. rw e (within n (suc k) h))
+takes-grown kind o s j (within n k h) (look m) = within n (suc k) h
 
 pub grown-has : (kind : Kind) (k : ℕ) (s : State) → Grown kind k s → k ≤ 1024 → StateOf kind s × Bounded s
 grown-has kind i s (upto n k h) l = (account, omega arith)
 grown-has kind i s (kept n k h) l = (register h, h)
 grown-has kind i s (aside z k h) l = (counter, omega arith)
+grown-has kind i s (within n k h) l = (bin h, h)
 
 -- an opening has grown by nothing
 abbrev GrownIf : Kind → Opening → Type 0
@@ -130,6 +162,7 @@ opens-grown : (kind : Kind) (x : ℤ) → GrownIf kind (openedOf kind x)
 opens-grown Account x = ranged (GrownIf Account) (λ n. At (A.accountOf n)) Refused x 0 A.openingMost (λ n l h. upto n 0 (omega arith)) tt
 opens-grown Register x = ranged (GrownIf Register) (λ n. At (R.registerOf n)) Refused x 0 R.valueMost (λ n l h. kept n 0 h) tt
 opens-grown Counter x = either-sided (GrownIf Counter) (λ z. At (K.counterOf z)) Refused x K.openingMost (λ h. aside x 0 (omega arith)) tt
+opens-grown Bin x = ranged (GrownIf Bin) (λ n. At (B.binOf n)) Refused x 0 B.openingMost (λ n l h. within n 0 h) tt
 opens-grown Unknown x = tt
 
 pub opened-grown : (kind : Kind) (x : ℤ) (s : State) → openedOf kind x ≡ At s → Grown kind 0 s

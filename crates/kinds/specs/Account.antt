@@ -13,8 +13,8 @@ use Rattle.kinds.specs.declared.Operation.the-variants as O
 use Rattle.kinds.specs.declared.outcome.Outcome.{Outcome}
 use Rattle.kinds.specs.declared.outcome.Outcome.the-variants.{Ok, Fail, Value}
 use Rattle.kinds.specs.declared.Stepped.{Stepped}
-use Rattle.kinds.specs.declared.outcome.Recalled.{Recalled}
-use Rattle.kinds.specs.declared.outcome.Recalled.the-variants.{Unshaped}
+use Rattle.kinds.specs.declared.outcome.Shape.{Shape}
+use Rattle.kinds.specs.declared.outcome.Shape.the-variants.{Done, DoneOrFailed, Between}
 use Rattle.kinds.specs.declared.Opening.{Opening}
 use Rattle.kinds.specs.declared.Opening.the-variants.{At, Refused}
 use Rattle.kinds.specs.declared.Decoded.{Decoded}
@@ -24,7 +24,6 @@ use Rattle.kinds.specs.declared.table.Class.the-variants.{Row, None}
 use Rattle.kinds.specs.declared.table.Rule.{Rule}
 use Rattle.kinds.specs.declared.table.Rule.the-variants.{Pass, Conflict, IfAtLeast, IfAtMost}
 use Rattle.kinds.specs.Range.{inRange}
-use Rattle.kinds.specs.Outcome.{ok, fail, value, withValue, withoutValue}
 
 -- the account with this balance
 abbrev pub accountOf : ℕ → State
@@ -68,11 +67,11 @@ Room account Balance = Unit {0}
 Room account (Deposit n) = account .balance + n < 2 ^ 32
 Room account (Withdraw n) = Unit {0}
 
--- the outcomes that an operation allows, by a and b
-abbrev pub recallOf : AccountOperation → ℕ → ℤ → Recalled
-recallOf Balance a b = cond (eqb a value) (withValue b (pos 0) (pos balanceMost)) Unshaped
-recallOf (Deposit n) a b = cond (eqb a ok) (withoutValue Ok b) Unshaped
-recallOf (Withdraw n) a b = cond (eqb a ok) (withoutValue Ok b) (cond (eqb a fail) (withoutValue Fail b) Unshaped)
+-- the results that an operation allows
+abbrev pub shapeOf : AccountOperation → Shape
+shapeOf Balance = Between (pos 0) (pos balanceMost)
+shapeOf (Deposit n) = Done
+shapeOf (Withdraw n) = DoneOrFailed
 
 -- the row of each class of answer: balance, deposit, withdraw OK, withdraw FAIL; its key is the balance or the amount
 abbrev pub classOf : AccountOperation → Outcome → Class

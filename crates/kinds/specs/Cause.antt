@@ -1,4 +1,4 @@
--- What a conflict has as its cause. Source: the paper, 6.2; requests Q-2 and Q-5.
+-- What a conflict has as its cause. Source: the paper, 6.2; requests Q-2, Q-3 and Q-5.
 use mathlib.Core.Path.{_≡_}
 use mathlib.Core.Bool.{true}
 use lib.IntN.{ℤ, pos}
@@ -24,11 +24,12 @@ pub record Cause (kind : Kind) (p q : Answered) (s : State) : Type 0 where
   pub q-right : Right (objectOf kind) s (opOf kind q)
   pub differ : ¬ Swaps (objectOf kind) (opOf kind p) (opOf kind q) s
 
--- the number that the state is: its balance, value or count
+-- the number that the state is: its balance, value or count, or a bin's parts
 abbrev pub valueOf : State → ℤ
 valueOf (S.Account account) = pos (account .balance)
 valueOf (S.Register register) = pos (register .value)
 valueOf (S.Counter counter) = counter .count
+valueOf (S.Bin bin) = pos (bin .parts)
 
 -- a cause, and no state with a smaller number is one
 pub record SmallestCause (kind : Kind) (p q : Answered) (s : State) : Type 0 where

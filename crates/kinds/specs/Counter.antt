@@ -13,8 +13,8 @@ use Rattle.kinds.specs.declared.Operation.the-variants as O
 use Rattle.kinds.specs.declared.outcome.Outcome.{Outcome}
 use Rattle.kinds.specs.declared.outcome.Outcome.the-variants.{Ok, Fail, Value}
 use Rattle.kinds.specs.declared.Stepped.{Stepped}
-use Rattle.kinds.specs.declared.outcome.Recalled.{Recalled}
-use Rattle.kinds.specs.declared.outcome.Recalled.the-variants.{Unshaped}
+use Rattle.kinds.specs.declared.outcome.Shape.{Shape}
+use Rattle.kinds.specs.declared.outcome.Shape.the-variants.{Done, Between}
 use Rattle.kinds.specs.declared.Opening.{Opening}
 use Rattle.kinds.specs.declared.Opening.the-variants.{At, Refused}
 use Rattle.kinds.specs.declared.Decoded.{Decoded}
@@ -24,7 +24,6 @@ use Rattle.kinds.specs.declared.table.Class.the-variants.{Row, None}
 use Rattle.kinds.specs.declared.table.Rule.{Rule}
 use Rattle.kinds.specs.declared.table.Rule.the-variants.{Pass, UnlessEqual}
 use Rattle.kinds.specs.Range.{inRange, eitherSide}
-use Rattle.kinds.specs.Outcome.{ok, value, withValue, withoutValue}
 
 -- the counter with this count
 abbrev pub counterOf : ℤ → State
@@ -59,10 +58,10 @@ abbrev pub Room : Counter → CounterOperation → Type 0
 Room counter (Adjust z) = natAbs (counter .count +ℤ z) < 2 ^ 31
 Room counter Count = Unit {0}
 
--- the outcomes that an operation allows, by a and b
-abbrev pub recallOf : CounterOperation → ℕ → ℤ → Recalled
-recallOf (Adjust z) a b = cond (eqb a ok) (withoutValue Ok b) Unshaped
-recallOf Count a b = cond (eqb a value) (withValue b (negℤ (pos countBound)) (pos countBound)) Unshaped
+-- the results that an operation allows
+abbrev pub shapeOf : CounterOperation → Shape
+shapeOf (Adjust z) = Done
+shapeOf Count = Between (negℤ (pos countBound)) (pos countBound)
 
 -- the row of each class of answer: adjustment, count; its key is what it adds, and a count adds nothing
 abbrev pub classOf : CounterOperation → Outcome → Class

@@ -4,6 +4,7 @@ pub mod Table
 pub mod Account
 pub mod Register
 pub mod Counter
+pub mod Bin
 pub mod Kinds
 pub mod Object
 pub mod Cause

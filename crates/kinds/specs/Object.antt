@@ -1,11 +1,11 @@
--- Each kind as a serial object of the paper, over all its states. Source: document 01, "The conflict table"; request Q-1.
+-- Each kind as a serial object of the paper, over all its states. Source: document 01, "The conflict table"; requests Q-1 and Q-3.
 use mathlib.Core.Path.{_≡_}
 use mathlib.Core.List.{List, [], _∷_}
 use Prim.Native.Nat.{ℕ, _+_, _*_, _≤_}
 use lib.IntN.{ℤ, natAbs}
 use Rattle.theory.specs.Serial.{Serial, Op}
 use Rattle.kinds.specs.declared.Kind.{Kind}
-use Rattle.kinds.specs.declared.Kind.the-variants.{Account, Register, Counter}
+use Rattle.kinds.specs.declared.Kind.the-variants.{Account, Register, Counter, Bin}
 use Rattle.kinds.specs.declared.State.{State}
 use Rattle.kinds.specs.declared.Operation.{Operation}
 use Rattle.kinds.specs.declared.outcome.Outcome.{Outcome}
@@ -15,12 +15,14 @@ use Rattle.kinds.specs.Kinds.{decodeOf, stepOf}
 use Rattle.kinds.specs.Account as A
 use Rattle.kinds.specs.Register as R
 use Rattle.kinds.specs.Counter as K
+use Rattle.kinds.specs.Bin as B
 
--- all whole numbers from 0 for an account, 0 to 1,000,000,000 for a register, and all whole numbers, negative too, for a counter
+-- all whole numbers from 0 for an account, 0 to 1,000,000,000 for a register, all whole numbers, negative too, for a counter, and 0 to 4,294,967,295 for a bin
 pub data StateOf : Kind → State → Type 0 where
   account : {n : ℕ} → StateOf Account (A.accountOf n)
   register : {n : ℕ} → n ≤ R.valueMost → StateOf Register (R.registerOf n)
   counter : {z : ℤ} → StateOf Counter (K.counterOf z)
+  bin : {n : ℕ} → n ≤ B.openingMost → StateOf Bin (B.binOf n)
 
 abbrev pub objectOf : Kind → Serial
 objectOf kind = record {
@@ -49,3 +51,4 @@ pub data Grown : Kind → ℕ → State → Type 0 where
   upto : (n k : ℕ) → n ≤ A.openingMost + k * A.amountMost → Grown Account k (A.accountOf n)
   kept : (n k : ℕ) → n ≤ R.valueMost → Grown Register k (R.registerOf n)
   aside : (z : ℤ) (k : ℕ) → natAbs z ≤ K.openingMost + k * K.adjustmentMost → Grown Counter k (K.counterOf z)
+  within : (n k : ℕ) → n ≤ B.openingMost → Grown Bin k (B.binOf n)

@@ -13,8 +13,8 @@ use Rattle.kinds.specs.declared.Operation.the-variants as O
 use Rattle.kinds.specs.declared.outcome.Outcome.{Outcome}
 use Rattle.kinds.specs.declared.outcome.Outcome.the-variants.{Ok, Fail, Value}
 use Rattle.kinds.specs.declared.Stepped.{Stepped}
-use Rattle.kinds.specs.declared.outcome.Recalled.{Recalled}
-use Rattle.kinds.specs.declared.outcome.Recalled.the-variants.{Unshaped}
+use Rattle.kinds.specs.declared.outcome.Shape.{Shape}
+use Rattle.kinds.specs.declared.outcome.Shape.the-variants.{Done, Between}
 use Rattle.kinds.specs.declared.Opening.{Opening}
 use Rattle.kinds.specs.declared.Opening.the-variants.{At, Refused}
 use Rattle.kinds.specs.declared.Decoded.{Decoded}
@@ -24,7 +24,6 @@ use Rattle.kinds.specs.declared.table.Class.the-variants.{Row, None}
 use Rattle.kinds.specs.declared.table.Rule.{Rule}
 use Rattle.kinds.specs.declared.table.Rule.the-variants.{Pass, UnlessEqual}
 use Rattle.kinds.specs.Range.{inRange}
-use Rattle.kinds.specs.Outcome.{ok, value, withValue, withoutValue}
 
 -- the register with this value
 abbrev pub registerOf : ℕ → State
@@ -47,10 +46,10 @@ abbrev pub stepOf : Register → RegisterOperation → Stepped
 stepOf register Read = record { state = S.Register register; outcome = Value (pos (register .value)) }
 stepOf register (Write n) = record { state = registerOf n; outcome = Ok }
 
--- the outcomes that an operation allows, by a and b
-abbrev pub recallOf : RegisterOperation → ℕ → ℤ → Recalled
-recallOf Read a b = cond (eqb a value) (withValue b (pos 0) (pos valueMost)) Unshaped
-recallOf (Write n) a b = cond (eqb a ok) (withoutValue Ok b) Unshaped
+-- the results that an operation allows
+abbrev pub shapeOf : RegisterOperation → Shape
+shapeOf Read = Between (pos 0) (pos valueMost)
+shapeOf (Write n) = Done
 
 -- the row of each class of answer: read, write; its key is the value
 abbrev pub classOf : RegisterOperation → Outcome → Class

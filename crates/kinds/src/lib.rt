@@ -1,6 +1,7 @@
-// The kinds of document 01 and requests Q-1 and Q-2: their states and operations, their limits and numbers, the state that each opens with, and its conflict table.
-// A kind's own part is in its own file. specs/ says besides what an operation does; `account`, `register`, `counter` and `serial` have the functions that do it.
+// The kinds of document 01 and requests Q-1 to Q-3: their states and operations, their limits and numbers, the state that each opens with, and its conflict table.
+// A kind's own part is in its own file. specs/ says besides what an operation does; `account`, `register`, `counter`, `bin` and `serial` have the functions that do it.
 mod account;
+mod bin;
 mod counter;
 mod outcome;
 pub mod range;
@@ -9,14 +10,15 @@ mod table;
 
 pub use account::Account;
 pub use account::AccountOperation;
+pub use bin::Bin;
+pub use bin::BinOperation;
 pub use counter::Counter;
 pub use counter::CounterOperation;
 pub use outcome::Numbers;
 pub use outcome::Outcome;
 pub use outcome::Recalled;
+pub use outcome::Shape;
 pub use outcome::numbers_of;
-pub use outcome::with_value;
-pub use outcome::without_value;
 pub use register::Register;
 pub use register::RegisterOperation;
 pub use table::Class;
@@ -26,6 +28,7 @@ pub enum Kind {
     Account,
     Register,
     Counter,
+    Bin,
     Unknown,
 }
 
@@ -33,12 +36,14 @@ pub enum Operation {
     Account(AccountOperation),
     Register(RegisterOperation),
     Counter(CounterOperation),
+    Bin(BinOperation),
 }
 
 pub enum State {
     Account(Account),
     Register(Register),
     Counter(Counter),
+    Bin(Bin),
 }
 
 // An operation with its outcome.

@@ -14,6 +14,8 @@ pub enum Rule {
     Conflict,
     // Unless their keys are equal.
     UnlessEqual,
+    // If their keys are equal.
+    IfEqual,
     // If the asking answer's key is at least the held one's.
     IfAtLeast,
     // The same, where the other of the two asks.
@@ -29,6 +31,7 @@ impl Rule {
             Rule::Pass => false,
             Rule::Conflict => true,
             Rule::UnlessEqual => asking != held,
+            Rule::IfEqual => asking == held,
             Rule::IfAtLeast => held <= asking,
             Rule::IfAtMost => asking <= held,
         }

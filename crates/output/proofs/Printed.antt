@@ -1,6 +1,5 @@
 -- What is printed on every file is what `Prints` says, in document 01's words.
 use Prim.Native.Nat.{ℕ, _≤_}
-use Prim.Native.Char.{code}
 use mathlib.Core.Path.{_≡_, refl, sym, _∙_}
 use mathlib.Core.Logic.{_↔_, ⊎-elim}
 use mathlib.Core.Bool.{false≢true}
@@ -66,6 +65,7 @@ letters-kinds letter = (
       (λ e. let z : _≡_ {A = ℕ} 0 1 = cc in omega arith)
       (λ e. let z : _≡_ {A = ℕ} 0 1 = cc in omega arith)
       (λ e. let z : _≡_ {A = ℕ} 0 1 = cc in omega arith)
+      (λ e. let z : _≡_ {A = ℕ} 0 1 = cc in omega arith)
       letter,
-  λ known. kind-among letter (λ a r k. known (rw (ne-eqb letter (code "A") a, ne-eqb letter (code "R") r, ne-eqb letter (code "K") k))),
+  λ known. kind-among letter (λ a r k s. known (simp ne-eqb)),
 )

@@ -1,20 +1,17 @@
-// The register: which operations it takes, what each does, its recorded outcomes and its classes of answer.
+// The register: which operations it takes, what each does, the results that each allows and its classes of answer.
 ghost use mathlib.Core.Path.{_≡_};
-ghost use Rattle.kinds.specs.Register.{decodeOf, stepOf, recallOf, classOf};
+ghost use Rattle.kinds.specs.Register.{decodeOf, stepOf, shapeOf, classOf};
 use kinds::Class;
 use kinds::Decoded;
-use kinds::Numbers;
 use kinds::Operation;
 use kinds::Outcome;
-use kinds::Recalled;
 use kinds::Register;
 use kinds::RegisterOperation;
+use kinds::Shape;
 use kinds::State;
 use kinds::Stepped;
 use kinds::range::Ranged;
 use kinds::range::within;
-use kinds::with_value;
-use kinds::without_value;
 
 pub fn decode(operation: u32, argument: i64) -> Decoded
     ensures { λ r. ⌜ r ≡ decodeOf operation argument ⌝ }
@@ -47,22 +44,15 @@ pub fn step(register: Register, operation: RegisterOperation) -> Stepped
     }
 }
 
-pub fn recall(operation: RegisterOperation, a: u32, b: i64) -> Recalled
-    ensures { λ r. ⌜ r ≡ recallOf operation a b ⌝ }
+pub fn shape_of(operation: RegisterOperation) -> Shape
+    ensures { λ r. ⌜ r ≡ shapeOf operation ⌝ }
 {
     match operation {
-        RegisterOperation::Read => match a {
-            Numbers::VALUE => with_value(
-                b,
-                Register::VALUE_LEAST as i64,
-                Register::VALUE_MOST as i64,
-            ),
-            _ => Recalled::Unshaped,
-        },
-        RegisterOperation::Write(_) => match a {
-            Numbers::OK => without_value(Outcome::Ok, b),
-            _ => Recalled::Unshaped,
-        },
+        RegisterOperation::Read => Shape::Between(
+            Register::VALUE_LEAST as i64,
+            Register::VALUE_MOST as i64,
+        ),
+        RegisterOperation::Write(_) => Shape::Done,
     }
 }
 

@@ -14,7 +14,13 @@ use written::ObjectLine;
 fn is_kind(letter: u8) -> bool
     ensures { λ r. ⌜ r ≡ isKind letter ⌝ }
 {
-    letter == b'A' || letter == b'R' || letter == b'K'
+    match letter {
+        b'A' => true,
+        b'R' => true,
+        b'K' => true,
+        b'S' => true,
+        _ => false,
+    }
 }
 
 // The byte at a place where a space follows it, and 0 elsewhere.

@@ -1,10 +1,11 @@
-// The serial objects of document 01 and requests Q-1 and Q-2: what each kind takes, what an operation does to a state and answers, and which answers conflict.
+// The serial objects of document 01 and requests Q-1 to Q-3: what each kind takes, what an operation does to a state and answers, and which answers conflict.
 // The definitions of all this, and what is proved of them, are in `kinds`. A kind's own part is in its own crate; here the kinds are told apart.
 ghost use mathlib.Core.Path.{_≡_};
-ghost use Rattle.kinds.specs.Kinds.{kindOf, openedOf, startOf, decodeOf, idle, stepOf, Room, recallOf, classOf, tableOf, conflictOf};
+ghost use Rattle.kinds.specs.Kinds.{kindOf, openedOf, startOf, decodeOf, idle, stepOf, Room, shapeOf, recallOf, classOf, tableOf, conflictOf};
 ghost use Rattle.kinds.specs.Table.{entry};
 use kinds::Account;
 use kinds::Answered;
+use kinds::Bin;
 use kinds::Class;
 use kinds::Counter;
 use kinds::Decoded;
@@ -15,6 +16,7 @@ use kinds::Outcome;
 use kinds::Recalled;
 use kinds::Register;
 use kinds::Rule;
+use kinds::Shape;
 use kinds::State;
 use kinds::Stepped;
 
@@ -25,6 +27,7 @@ pub fn kind_of(letter: u8) -> Kind
         b'A' => Kind::Account,
         b'R' => Kind::Register,
         b'K' => Kind::Counter,
+        b'S' => Kind::Bin,
         _ => Kind::Unknown,
     }
 }
@@ -36,6 +39,7 @@ pub fn opened(kind: Kind, opening: i64) -> Opening
         Kind::Account => Account::opened(opening),
         Kind::Register => Register::opened(opening),
         Kind::Counter => Counter::opened(opening),
+        Kind::Bin => Bin::opened(opening),
         Kind::Unknown => Opening::Refused,
     }
 }
@@ -57,6 +61,7 @@ pub fn decode(kind: Kind, operation: u32, argument: i64) -> Decoded
         Kind::Account => account::decode(operation, argument),
         Kind::Register => register::decode(operation, argument),
         Kind::Counter => counter::decode(operation, argument),
+        Kind::Bin => bin::decode(operation, argument),
         Kind::Unknown => Decoded::Unfit,
     }
 }
@@ -88,17 +93,28 @@ pub fn step(state: State, operation: Operation) -> Stepped
             Operation::Counter(o) => counter::step(counter, o),
             _ => unchanged(state),
         },
+        State::Bin(bin) => match operation {
+            Operation::Bin(o) => bin::step(bin, o),
+            _ => unchanged(state),
+        },
+    }
+}
+
+fn shape_of(operation: Operation) -> Shape
+    ensures { λ r. ⌜ r ≡ shapeOf operation ⌝ }
+{
+    match operation {
+        Operation::Account(o) => account::shape_of(o),
+        Operation::Register(o) => register::shape_of(o),
+        Operation::Counter(o) => counter::shape_of(o),
+        Operation::Bin(o) => bin::shape_of(o),
     }
 }
 
 pub fn recall(operation: Operation, a: u32, b: i64) -> Recalled
     ensures { λ r. ⌜ r ≡ recallOf operation a b ⌝ }
 {
-    match operation {
-        Operation::Account(o) => account::recall(o, a, b),
-        Operation::Register(o) => register::recall(o, a, b),
-        Operation::Counter(o) => counter::recall(o, a, b),
-    }
+    shape_of(operation).recall(a, b)
 }
 
 fn class_of(kind: Kind, answered: Answered) -> Class
@@ -119,6 +135,10 @@ fn class_of(kind: Kind, answered: Answered) -> Class
             Operation::Counter(o) => counter::class_of(o, outcome),
             _ => Class::None,
         },
+        Kind::Bin => match operation {
+            Operation::Bin(o) => bin::class_of(o, outcome),
+            _ => Class::None,
+        },
         Kind::Unknown => Class::None,
     }
 }
@@ -130,6 +150,7 @@ fn rule_of(kind: Kind, row: usize, column: usize) -> Rule
         Kind::Account => Account::rule_of(row, column),
         Kind::Register => Register::rule_of(row, column),
         Kind::Counter => Counter::rule_of(row, column),
+        Kind::Bin => Bin::rule_of(row, column),
         Kind::Unknown => Rule::Conflict,
     }
 }

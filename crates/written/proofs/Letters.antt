@@ -21,15 +21,17 @@ pub kind-not-zero : (letter : ℕ) → isKind letter ≡ true → letter ≡ 0 �
 kind-not-zero letter e z = false≢true (rw z at e)
 
 -- what is so of each kind's letter
-pub kind-each : (P : ℕ → Type 0) → P (code "A") → P (code "R") → P (code "K") → (letter : ℕ) → KindLetter letter → P letter
-kind-each P a r k letter (inl e) = rw e a
-kind-each P a r k letter (inr (inl e)) = rw e r
-kind-each P a r k letter (inr (inr e)) = rw e k
+pub kind-each : (P : ℕ → Type 0) → P (code "A") → P (code "R") → P (code "K") → P (code "S") → (letter : ℕ) → KindLetter letter → P letter
+kind-each P a r k s letter (inl e) = rw e a
+kind-each P a r k s letter (inr (inl e)) = rw e r
+kind-each P a r k s letter (inr (inr (inl e))) = rw e k
+kind-each P a r k s letter (inr (inr (inr e))) = rw e s
 
 -- a letter that cannot be another
-pub kind-among : (letter : ℕ) → ((letter ≡ code "A" → ⊥) → (letter ≡ code "R" → ⊥) → (letter ≡ code "K" → ⊥) → ⊥) → KindLetter letter
+pub kind-among : (letter : ℕ) → ((letter ≡ code "A" → ⊥) → (letter ≡ code "R" → ⊥) → (letter ≡ code "K" → ⊥) → (letter ≡ code "S" → ⊥) → ⊥) → KindLetter letter
 kind-among letter other =
     cases (same-or letter (code "A")) inl
     (λ a. cases (same-or letter (code "R")) (λ e. inr (inl e))
-    (λ r. cases (same-or letter (code "K")) (λ e. inr (inr e))
-    (λ k. absurd (other a r k))))
+    (λ r. cases (same-or letter (code "K")) (λ e. inr (inr (inl e)))
+    (λ k. cases (same-or letter (code "S")) (λ e. inr (inr (inr e)))
+    (λ s. absurd (other a r k s)))))

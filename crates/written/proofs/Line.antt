@@ -1,6 +1,5 @@
 -- A kind of line is read exactly where its text stands: counts, and object lines.
 use Prim.Native.Nat.{ℕ, _+_, _≤_, _<_}
-use Prim.Native.Char.{code}
 use mathlib.Core.Path.{_≡_, refl, sym, ap}
 use mathlib.Core.List.{List, [], _∷_}
 use mathlib.Core.Bool.{true, cond, false≢true}
@@ -76,14 +75,13 @@ counts most small =
 
 -- Object lines.
 is-kind : (letter : ℕ) → KindLetter letter → isKind letter ≡ true
-is-kind = kind-each (λ letter. isKind letter ≡ true) refl refl refl
+is-kind = kind-each (λ letter. isKind letter ≡ true) refl refl refl refl
 
 kind-is : (letter : ℕ) → isKind letter ≡ true → KindLetter letter
-kind-is letter e =
-    kind-among letter (λ a r k. false≢true (rw (ne-eqb letter (code "A") a, ne-eqb letter (code "R") r, ne-eqb letter (code "K") k) at e))
+kind-is letter e = kind-among letter (λ a r k s. false≢true (simp ne-eqb at e))
 
 kind-high : (letter : ℕ) → KindLetter letter → lineEnd < letter
-kind-high = kind-each (λ letter. lineEnd < letter) (omega arith) (omega arith) (omega arith)
+kind-high = kind-each (λ letter. lineEnd < letter) (omega arith) (omega arith) (omega arith) (omega arith)
 
 object-sound : (s : List ℕ) (at : ℕ) (o : Object) (next : ℕ) → objectItem s at ≡ item o next → ObjectFits o × Stands s at (objectText o) next
 object-sound s at o next e =

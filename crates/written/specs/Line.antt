@@ -1,4 +1,4 @@
--- An object line and a call line as they are read; proofs/Line and Calls tie them to their text. Source: document 01, "The run file and its program", and request Q-1.
+-- An object line and a call line as they are read; proofs/Line and Calls tie them to their text. Source: document 01, "The run file and its program", and requests Q-1 and Q-3.
 use Prim.Native.Nat.{ℕ, _+_}
 use Prim.Native.Char.{code}
 use mathlib.Core.List.{List}
@@ -19,7 +19,7 @@ unfoldable pub letterAt : List ℕ → ℕ → ℕ
 letterAt file at = cond (eqb (getD file (at + 1) 0) space) (getD file at 0) 0
 
 abbrev pub isKind : ℕ → Bool
-isKind letter = eqb letter (code "A") || eqb letter (code "R") || eqb letter (code "K")
+isKind letter = eqb letter (code "A") || eqb letter (code "R") || eqb letter (code "K") || eqb letter (code "S")
 
 -- a kind and its opening
 abbrev pub objectAt : List ℕ → ℕ → ObjectLine

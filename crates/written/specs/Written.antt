@@ -1,4 +1,4 @@
--- The run file as it is written, and the first wrong line of any other file. Source: document 01, "The run file and its program", and request Q-1. `RunFile` sets
+-- The run file as it is written, and the first wrong line of any other file. Source: document 01, "The run file and its program", and requests Q-1 and Q-3. `RunFile` sets
 -- no limit of bytes: `Prints` (crates/output/specs/Output.antt) does, since a file too long is line 0 whatever its lines are.
 use Prim.Native.Nat.{ℕ, _-_, _≤_}
 use Prim.Native.Char.{code}
@@ -79,9 +79,9 @@ Each P (x ∷ xs) = P x × Each P xs
 abbrev pub InRange : ℤ → Type 0
 InRange z = natAbs z ≤ numberMost
 
--- A, an account, R, a register, or K, a counter
+-- A, an account, R, a register, K, a counter, or S, a bin of serial-numbered parts
 abbrev pub KindLetter : ℕ → Type 0
-KindLetter letter = (letter ≡ code "A") ⊎ (letter ≡ code "R") ⊎ (letter ≡ code "K")
+KindLetter letter = (letter ≡ code "A") ⊎ (letter ≡ code "R") ⊎ (letter ≡ code "K") ⊎ (letter ≡ code "S")
 
 abbrev pub ObjectFits : Object → Type 0
 ObjectFits o = KindLetter (o .letter) × InRange (o .opening)

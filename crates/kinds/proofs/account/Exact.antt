@@ -60,8 +60,8 @@ form (short {n}) = record {
   ends = λ b h. ap (λ s. s .state) (lacking n b h);
 }
 
-abbrev shape : exactly.Shape Account
-shape = record {
+abbrev terms : exactly.Terms Account
+terms = record {
   N = ℕ;
   O = AccountOperation;
   make = accountOf;
@@ -79,7 +79,7 @@ silent n b v e =
     (λ h. apart Fail (Value v) refl (sym (ap (λ s. s .outcome) (lacking n b h)) ∙ e))
     (le-or n b)
 
-sorted : (o : AccountOperation) (r : Outcome) → exactly.Sorted shape o r
+sorted : (o : AccountOperation) (r : Outcome) → exactly.Sorted terms o r
 sorted Balance (Value v) = inl (0, v, refl, balance)
 sorted Balance Ok = inr (refl, λ b e. apart (Value (pos b)) Ok refl e)
 sorted Balance Fail = inr (refl, λ b e. apart (Value (pos b)) Fail refl e)
@@ -103,27 +103,27 @@ one b e = ap natAbs (sym e)
 compared : (n b : ℕ) {v : ℤ} (t : Bool) → pos b ≡ v → leZ (pos n) v ≡ t → leb n b ≡ t
 compared n b t e h = ap (leZ (pos n)) e ∙ h
 
-balance-deposit : (v : ℤ) (n : ℕ) → exactly.Stands shape (balance {v = v}) (deposit {n = n})
+balance-deposit : (v : ℤ) (n : ℕ) → exactly.Stands terms (balance {v = v}) (deposit {n = n})
 unfolding entry
 balance-deposit v n =
-    exactly.conflicting shape balance deposit refl
+    exactly.conflicting terms balance deposit refl
     (λ p q. let l = deposited (q .takes) in
-    exactly.at-one shape balance deposit one (λ b e. tt) (λ b e both. let h : natAbs v ≡ b + n = one (b + n) (both .1) in let k : natAbs v ≡ b = one b e in omega arith) p)
+    exactly.at-one terms balance deposit one (λ b e. tt) (λ b e both. let h : natAbs v ≡ b + n = one (b + n) (both .1) in let k : natAbs v ≡ b = one b e in omega arith) p)
 
-balance-drawn : (v : ℤ) (n : ℕ) → exactly.Stands shape (balance {v = v}) (drawn {n = n})
+balance-drawn : (v : ℤ) (n : ℕ) → exactly.Stands terms (balance {v = v}) (drawn {n = n})
 unfolding entry
 balance-drawn v n =
-    exactly.tested shape (balance {v = v}) (drawn {n = n}) (
+    exactly.tested terms (balance {v = v}) (drawn {n = n}) (
       (λ f b e h. absurd (omega (arith, leb-false n b (compared n b false e f)))),
       (λ t p q. let l = withdrawn (q .takes) in
-          exactly.at-one shape balance drawn one (λ b e. leb-true n b (compared n b true e t))
+          exactly.at-one terms balance drawn one (λ b e. leb-true n b (compared n b true e t))
           (λ b e both. let h : natAbs v ≡ b - n = one (b - n) (both .1) in let k : natAbs v ≡ b = one b e in omega (arith, leb-true n b (compared n b true e t))) p),
     )
 
-deposit-short : (n m : ℕ) → exactly.Stands shape (deposit {n = n}) (short {n = m})
+deposit-short : (n m : ℕ) → exactly.Stands terms (deposit {n = n}) (short {n = m})
 unfolding entry
 deposit-short n m =
-    exactly.conflicting shape deposit short refl
+    exactly.conflicting terms deposit short refl
     (λ p q. let i = deposited (p .takes) in
     let j = withdrawn (q .takes) in
     record {
@@ -131,13 +131,13 @@ deposit-short n m =
       first = tt;
       second = omega arith;
       differ = λ both. omega arith;
-      least = λ b h k d. let w = shape .witness (Deposit n) Ok (Withdraw m) Fail in ⊎-elim (λ l. le-leb w b l) (λ l. absurd (d (omega arith))) (le-or w b);
+      least = λ b h k d. let w = terms .witness (Deposit n) Ok (Withdraw m) Fail in ⊎-elim (λ l. le-leb w b l) (λ l. absurd (d (omega arith))) (le-or w b);
     })
 
-drawn-drawn : (n m : ℕ) → exactly.Stands shape (drawn {n = n}) (drawn {n = m})
+drawn-drawn : (n m : ℕ) → exactly.Stands terms (drawn {n = n}) (drawn {n = m})
 unfolding entry
 drawn-drawn n m =
-    exactly.conflicting shape drawn drawn refl
+    exactly.conflicting terms drawn drawn refl
     (λ p q. let i = withdrawn (p .takes) in
     let j = withdrawn (q .takes) in
     record {
@@ -145,49 +145,51 @@ drawn-drawn n m =
       first = omega arith;
       second = omega arith;
       differ = λ both. omega arith;
-      least = λ b h k d. le-leb (shape .witness (Withdraw n) Ok (Withdraw m) Ok) b (omega arith);
+      least = λ b h k d. le-leb (terms .witness (Withdraw n) Ok (Withdraw m) Ok) b (omega arith);
     })
 
-stands : {a a′ : ℕ} {k k′ : ℤ} {o o′ : AccountOperation} {r r′ : Outcome} (p : Seen a k o r) (q : Seen a′ k′ o′ r′) → exactly.Stands shape p q
+stands : {a a′ : ℕ} {k k′ : ℤ} {o o′ : AccountOperation} {r r′ : Outcome} (p : Seen a k o r) (q : Seen a′ k′ o′ r′) → exactly.Stands terms p q
 unfolding entry
-stands balance balance = exactly.passing shape balance balance refl (λ b p q. (q, p, refl))
+stands balance balance = exactly.passing terms balance balance refl (λ b p q. (q, p, refl))
 stands (balance {v}) (deposit {n}) = balance-deposit v n
 stands (balance {v}) (drawn {n}) = balance-drawn v n
-stands balance short = exactly.passing shape balance short refl (λ b p q. (q, p, refl))
-stands (deposit {n}) (balance {v}) = exactly.mirrored shape balance deposit refl (balance-deposit v n)
-stands deposit deposit = exactly.passing shape deposit deposit refl (λ b. omega arith)
-stands deposit drawn = exactly.passing shape deposit drawn refl (λ b. omega arith)
+stands balance short = exactly.passing terms balance short refl (λ b p q. (q, p, refl))
+stands (deposit {n}) (balance {v}) = exactly.mirrored terms balance deposit refl (balance-deposit v n)
+stands deposit deposit = exactly.passing terms deposit deposit refl (λ b. omega arith)
+stands deposit drawn = exactly.passing terms deposit drawn refl (λ b. omega arith)
 stands (deposit {n}) (short {n = m}) = deposit-short n m
-stands (drawn {n}) (balance {v}) = exactly.mirrored shape (balance {v = v}) (drawn {n = n}) refl (balance-drawn v n)
-stands drawn deposit = exactly.passing shape drawn deposit refl (λ b. omega arith)
+stands (drawn {n}) (balance {v}) = exactly.mirrored terms (balance {v = v}) (drawn {n = n}) refl (balance-drawn v n)
+stands drawn deposit = exactly.passing terms drawn deposit refl (λ b. omega arith)
 stands (drawn {n}) (drawn {n = m}) = drawn-drawn n m
-stands drawn short = exactly.passing shape drawn short refl (λ b. omega arith)
-stands short balance = exactly.passing shape short balance refl (λ b p q. (q, p, refl))
-stands (short {n}) (deposit {n = m}) = exactly.mirrored shape deposit short refl (deposit-short m n)
-stands short drawn = exactly.passing shape short drawn refl (λ b. omega arith)
-stands short short = exactly.passing shape short short refl (λ b. omega arith)
+stands drawn short = exactly.passing terms drawn short refl (λ b. omega arith)
+stands short balance = exactly.passing terms short balance refl (λ b p q. (q, p, refl))
+stands (short {n}) (deposit {n = m}) = exactly.mirrored terms deposit short refl (deposit-short m n)
+stands short drawn = exactly.passing terms short drawn refl (λ b. omega arith)
+stands short short = exactly.passing terms short short refl (λ b. omega arith)
 
 -- states that nothing tells apart are made of the same
 pub same : (b c : ℕ) → Alike (objectOf Account) (accountOf b) (accountOf c) → b ≡ c
 same b c alike = sym (size-is (alike-answers (objectOf Account) (accountOf b) (accountOf c) (O.Account Balance) alike))
 
-made : (t : State) → StateOf Account t → exactly.Made shape t
+made : (t : State) → StateOf Account t → exactly.Made terms t
 made t (account {n}) = (n, refl)
 
-placed : (t : State) → exactly.Placed shape t
+placed : (t : State) → exactly.Placed terms t
 placed (S.Account a) = inl (a .balance, refl)
 placed (S.Register v) = inr (λ o. refl)
 placed (S.Counter c) = inr (λ o. refl)
+placed (S.Bin b) = inr (λ o. refl)
 
-taken : (o : Operation) → Takes Account o → exactly.Own shape o
+taken : (o : Operation) → Takes Account o → exactly.Own terms o
 taken o takes.balance = (Balance, refl)
 taken o (takes.deposit {n} l h) = (Deposit n, refl)
 taken o (takes.withdraw {n} l h) = (Withdraw n, refl)
 
-asked : (o : Operation) → exactly.Asked shape o
+asked : (o : Operation) → exactly.Asked terms o
 asked (O.Account o) = inl (o, refl)
 asked (O.Register o) = inr (λ r. refl)
 asked (O.Counter o) = inr (λ r. refl)
+asked (O.Bin o) = inr (λ r. refl)
 
 pub exact : exactly.Exact Account
-exact = exactly.exactly shape same made placed taken asked sorted (λ o r o′ r′. refl) (λ a a′ k k′ o o′ r r′ p q. stands p q)
+exact = exactly.exactly terms same made placed taken asked sorted (λ o r o′ r′. refl) (λ a a′ k k′ o o′ r r′ p q. stands p q)

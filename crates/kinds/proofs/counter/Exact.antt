@@ -33,8 +33,8 @@ abbrev form : {a : ℕ} {k : ℤ} {o : CounterOperation} {r : Outcome} → Seen 
 form (adjust {z}) = record { Need = λ s. Unit; end = λ s. s +ℤ z; tells = λ s e. tt; right = λ s h. refl; ends = λ s h. refl }
 form (count {v}) = record { Need = λ s. s ≡ v; end = λ s. s; tells = λ s e. value-is e; right = λ s h. ap Value h; ends = λ s h. refl }
 
-abbrev shape : exactly.Shape Counter
-shape = record {
+abbrev terms : exactly.Terms Counter
+terms = record {
   N = ℤ;
   O = CounterOperation;
   make = counterOf;
@@ -44,7 +44,7 @@ shape = record {
   witness = countFor;
 }
 
-sorted : (o : CounterOperation) (r : Outcome) → exactly.Sorted shape o r
+sorted : (o : CounterOperation) (r : Outcome) → exactly.Sorted terms o r
 sorted (Adjust z) Ok = inl (0, z, refl, adjust)
 sorted (Adjust z) Fail = inr (refl, λ s e. ok-not-fail e)
 sorted (Adjust z) (Value v) = inr (refl, λ s e. apart Ok (Value v) refl e)
@@ -63,42 +63,44 @@ unmoved s z e = sym (+ℤ-negℤ-cancel z s) ∙ ap (λ (y : ℤ). y -ℤ s) (+�
 either-order : (s n m : ℤ) → s +ℤ n +ℤ m ≡ s +ℤ m +ℤ n
 either-order s n m = +ℤ-assoc s n m ∙ ap (λ (k : ℤ). s +ℤ k) (+ℤ-comm n m) ∙ sym (+ℤ-assoc s m n)
 
-count-adjust : (v z : ℤ) → exactly.Stands shape (count {v = v}) (adjust {z = z})
+count-adjust : (v z : ℤ) → exactly.Stands terms (count {v = v}) (adjust {z = z})
 unfolding entry
 count-adjust v z =
-    exactly.tested shape (count {v = v}) (adjust {z = z}) (
+    exactly.tested terms (count {v = v}) (adjust {z = z}) (
       (λ f s e h. (tt, adds-nothing z s (sym (equal-keys (pos 0) z f)) ∙ e, refl)),
-      (λ t p q. exactly.at-one shape (count {v = v}) (adjust {z = z}) (λ s e. sym e) (λ s e. tt)
+      (λ t p q. exactly.at-one terms (count {v = v}) (adjust {z = z}) (λ s e. sym e) (λ s e. tt)
           (λ s e both. unequal-keys (pos 0) z t (sym (unmoved s z (both .1 ∙ sym e)))) p),
     )
 
-stands : {a a′ : ℕ} {k k′ : ℤ} {o o′ : CounterOperation} {r r′ : Outcome} (p : Seen a k o r) (q : Seen a′ k′ o′ r′) → exactly.Stands shape p q
+stands : {a a′ : ℕ} {k k′ : ℤ} {o o′ : CounterOperation} {r r′ : Outcome} (p : Seen a k o r) (q : Seen a′ k′ o′ r′) → exactly.Stands terms p q
 unfolding entry
-stands (adjust {z}) (adjust {z = y}) = exactly.passing shape (adjust {z = z}) (adjust {z = y}) refl (λ s p q. (tt, tt, either-order s z y))
-stands (adjust {z}) (count {v}) = exactly.mirrored shape (count {v = v}) (adjust {z = z}) refl (count-adjust v z)
+stands (adjust {z}) (adjust {z = y}) = exactly.passing terms (adjust {z = z}) (adjust {z = y}) refl (λ s p q. (tt, tt, either-order s z y))
+stands (adjust {z}) (count {v}) = exactly.mirrored terms (count {v = v}) (adjust {z = z}) refl (count-adjust v z)
 stands (count {v}) (adjust {z}) = count-adjust v z
-stands (count {v}) (count {v = w}) = exactly.passing shape (count {v = v}) (count {v = w}) refl (λ s p q. (q, p, refl))
+stands (count {v}) (count {v = w}) = exactly.passing terms (count {v = v}) (count {v = w}) refl (λ s p q. (q, p, refl))
 
 -- states that nothing tells apart are made of the same
 pub same : (z y : ℤ) → Alike (objectOf Counter) (counterOf z) (counterOf y) → z ≡ y
 same z y alike = sym (value-is (alike-answers (objectOf Counter) (counterOf z) (counterOf y) (O.Counter Count) alike))
 
-made : (t : State) → StateOf Counter t → exactly.Made shape t
+made : (t : State) → StateOf Counter t → exactly.Made terms t
 made t (counter {z}) = (z, refl)
 
-placed : (t : State) → exactly.Placed shape t
+placed : (t : State) → exactly.Placed terms t
 placed (S.Account a) = inr (λ o. refl)
 placed (S.Register v) = inr (λ o. refl)
 placed (S.Counter c) = inl (c .count, refl)
+placed (S.Bin b) = inr (λ o. refl)
 
-taken : (o : Operation) → Takes Counter o → exactly.Own shape o
+taken : (o : Operation) → Takes Counter o → exactly.Own terms o
 taken o (takes.adjust {z} h) = (Adjust z, refl)
 taken o takes.count = (Count, refl)
 
-asked : (o : Operation) → exactly.Asked shape o
+asked : (o : Operation) → exactly.Asked terms o
 asked (O.Account o) = inr (λ r. refl)
 asked (O.Register o) = inr (λ r. refl)
 asked (O.Counter o) = inl (o, refl)
+asked (O.Bin o) = inr (λ r. refl)
 
 pub exact : exactly.Exact Counter
-exact = exactly.exactly shape same made placed taken asked sorted (λ o r o′ r′. refl) (λ a a′ k k′ o o′ r r′ p q. stands p q)
+exact = exactly.exactly terms same made placed taken asked sorted (λ o r o′ r′. refl) (λ a a′ k k′ o o′ r r′ p q. stands p q)

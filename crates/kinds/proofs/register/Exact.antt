@@ -35,8 +35,8 @@ abbrev form : {a : ℕ} {k : ℤ} {o : RegisterOperation} {r : Outcome} → Seen
 form (read {v}) = record { Need = λ n. pos n ≡ v; end = λ n. n; tells = λ n e. value-is e; right = λ n h. ap Value h; ends = λ n h. refl }
 form (write {n = m}) = record { Need = λ n. Unit; end = λ n. m; tells = λ n e. tt; right = λ n h. refl; ends = λ n h. refl }
 
-abbrev shape : exactly.Shape Register
-shape = record {
+abbrev terms : exactly.Terms Register
+terms = record {
   N = ℕ;
   O = RegisterOperation;
   make = registerOf;
@@ -46,7 +46,7 @@ shape = record {
   witness = valueFor;
 }
 
-sorted : (o : RegisterOperation) (r : Outcome) → exactly.Sorted shape o r
+sorted : (o : RegisterOperation) (r : Outcome) → exactly.Sorted terms o r
 sorted Read (Value v) = inl (0, v, refl, read)
 sorted Read Ok = inr (refl, λ n e. apart (Value (pos n)) Ok refl e)
 sorted Read Fail = inr (refl, λ n e. apart (Value (pos n)) Fail refl e)
@@ -54,18 +54,18 @@ sorted (Write n) Ok = inl (1, pos n, refl, write)
 sorted (Write n) Fail = inr (refl, λ b e. ok-not-fail e)
 sorted (Write n) (Value v) = inr (refl, λ b e. apart Ok (Value v) refl e)
 
-read-write : (v : ℤ) (m : ℕ) → exactly.Stands shape (read {v = v}) (write {n = m})
+read-write : (v : ℤ) (m : ℕ) → exactly.Stands terms (read {v = v}) (write {n = m})
 unfolding entry
 read-write v m =
-    exactly.tested shape (read {v = v}) (write {n = m}) (
+    exactly.tested terms (read {v = v}) (write {n = m}) (
       (λ f n e h. (tt, sym (equal-keys v (pos m) f), refl)),
-      (λ t p q. exactly.at-one shape read write (λ n e. ap natAbs (sym e)) (λ n e. tt) (λ n e both. unequal-keys v (pos m) t (sym (both .1))) p),
+      (λ t p q. exactly.at-one terms read write (λ n e. ap natAbs (sym e)) (λ n e. tt) (λ n e both. unequal-keys v (pos m) t (sym (both .1))) p),
     )
 
-write-write : (n m : ℕ) → exactly.Stands shape (write {n = n}) (write {n = m})
+write-write : (n m : ℕ) → exactly.Stands terms (write {n = n}) (write {n = m})
 unfolding entry
 write-write n m =
-    exactly.tested shape (write {n = n}) (write {n = m}) (
+    exactly.tested terms (write {n = n}) (write {n = m}) (
       (λ f b h k. (tt, tt, ap natAbs (sym (equal-keys (pos n) (pos m) f)))),
       (λ t p q. record {
         has = register (omega arith);
@@ -76,33 +76,35 @@ write-write n m =
       }),
     )
 
-stands : {a a′ : ℕ} {k k′ : ℤ} {o o′ : RegisterOperation} {r r′ : Outcome} (p : Seen a k o r) (q : Seen a′ k′ o′ r′) → exactly.Stands shape p q
+stands : {a a′ : ℕ} {k k′ : ℤ} {o o′ : RegisterOperation} {r r′ : Outcome} (p : Seen a k o r) (q : Seen a′ k′ o′ r′) → exactly.Stands terms p q
 unfolding entry
-stands read read = exactly.passing shape read read refl (λ n p q. (q, p, refl))
+stands read read = exactly.passing terms read read refl (λ n p q. (q, p, refl))
 stands (read {v}) (write {n}) = read-write v n
-stands (write {n}) (read {v}) = exactly.mirrored shape (read {v = v}) (write {n = n}) refl (read-write v n)
+stands (write {n}) (read {v}) = exactly.mirrored terms (read {v = v}) (write {n = n}) refl (read-write v n)
 stands (write {n}) (write {n = m}) = write-write n m
 
 -- states that nothing tells apart are made of the same
 pub same : (n m : ℕ) → Alike (objectOf Register) (registerOf n) (registerOf m) → n ≡ m
 same n m alike = sym (size-is (alike-answers (objectOf Register) (registerOf n) (registerOf m) (O.Register Read) alike))
 
-made : (t : State) → StateOf Register t → exactly.Made shape t
+made : (t : State) → StateOf Register t → exactly.Made terms t
 made t (register {n} h) = (n, refl)
 
-placed : (t : State) → exactly.Placed shape t
+placed : (t : State) → exactly.Placed terms t
 placed (S.Account a) = inr (λ o. refl)
 placed (S.Register v) = inl (v .value, refl)
 placed (S.Counter c) = inr (λ o. refl)
+placed (S.Bin b) = inr (λ o. refl)
 
-taken : (o : Operation) → Takes Register o → exactly.Own shape o
+taken : (o : Operation) → Takes Register o → exactly.Own terms o
 taken o takes.read = (Read, refl)
 taken o (takes.write {n} h) = (Write n, refl)
 
-asked : (o : Operation) → exactly.Asked shape o
+asked : (o : Operation) → exactly.Asked terms o
 asked (O.Account o) = inr (λ r. refl)
 asked (O.Register o) = inl (o, refl)
 asked (O.Counter o) = inr (λ r. refl)
+asked (O.Bin o) = inr (λ r. refl)
 
 pub exact : exactly.Exact Register
-exact = exactly.exactly shape same made placed taken asked sorted (λ o r o′ r′. refl) (λ a a′ k k′ o o′ r r′ p q. stands p q)
+exact = exactly.exactly terms same made placed taken asked sorted (λ o r o′ r′. refl) (λ a a′ k k′ o o′ r r′ p q. stands p q)

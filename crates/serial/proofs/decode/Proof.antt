@@ -1,8 +1,4 @@
-use mathlib.Core.Path.{ap, _∙_}
 use mir.Facts.{toZ-ofZ}
-use Rattle.kinds.specs.Account as A
-use Rattle.kinds.specs.Register as R
-use Rattle.kinds.specs.Counter as K
 use borrow.Author.Needs.{needs}
 use Rattle.serial.proofs.decode.Statement.{statement}
 use Rattle.serial.proofs.decode.Tie as tie
@@ -28,17 +24,26 @@ decode-requires-3 c κs = search needs
 enum-told-4 : tie.Need-enum-told-4
 enum-told-4 c = search needs
 
+decode-requires-4 : tie.Need-decode-requires-4
+decode-requires-4 c κs = search needs
+
+enum-told-5 : tie.Need-enum-told-5
+enum-told-5 c = search needs
+
 returns : tie.Need-returns
-returns c = rw (c .before .enum-told .given .1) (c .decode .ensures ∙ ap (A.decodeOf (c .before .before .before .args .operation)) (toZ-ofZ (c .before .before .before .fits .argument)))
+returns c = rw (c .before .enum-told .given .1) (rw (toZ-ofZ (c .before .before .before .fits .argument)) at (c .decode .ensures))
 
 returns-2 : tie.Need-returns-2
-returns-2 c = rw (c .before .enum-told2 .given .1) (c .decode2 .ensures ∙ ap (R.decodeOf (c .before .before .before .args .operation)) (toZ-ofZ (c .before .before .before .fits .argument)))
+returns-2 c = rw (c .before .enum-told2 .given .1) (rw (toZ-ofZ (c .before .before .before .fits .argument)) at (c .decode2 .ensures))
 
 returns-3 : tie.Need-returns-3
-returns-3 c = rw (c .before .enum-told3 .given .1) (c .decode3 .ensures ∙ ap (K.decodeOf (c .before .before .before .args .operation)) (toZ-ofZ (c .before .before .before .fits .argument)))
+returns-3 c = rw (c .before .enum-told3 .given .1) (rw (toZ-ofZ (c .before .before .before .fits .argument)) at (c .decode3 .ensures))
 
 returns-4 : tie.Need-returns-4
-returns-4 c = search needs
+returns-4 c = rw (c .before .enum-told4 .given .1) (rw (toZ-ofZ (c .before .before .before .fits .argument)) at (c .decode4 .ensures))
+
+returns-5 : tie.Need-returns-5
+returns-5 c = rw (c .enum-told5 .given .1)
 
 pub decode-spec : {M : Type 1} → statement M
 decode-spec =
@@ -51,7 +56,10 @@ decode-spec =
     enum-told-3
     decode-requires-3
     enum-told-4
+    decode-requires-4
+    enum-told-5
     returns
     returns-2
     returns-3
-    returns-4)
+    returns-4
+    returns-5)

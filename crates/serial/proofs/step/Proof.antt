@@ -1,5 +1,5 @@
 use mathlib.Core.Path.{_∙_}
-use Rattle.serial.proofs.Others.{not-account, not-register, not-counter}
+use Rattle.serial.proofs.Others.{not-account, not-register, not-counter, not-bin}
 use borrow.Author.Needs.{needs}
 use Rattle.serial.proofs.step.Statement.{statement}
 use Rattle.serial.proofs.step.Tie as tie
@@ -40,6 +40,18 @@ step-requires-3 c κs = rw (c .before .before .before .before .state3 .given .1,
 unchanged-requires-3 : tie.Need-unchanged-requires-3
 unchanged-requires-3 c κs = search needs
 
+enum-known-state-4 : tie.Need-enum-known-state-4
+enum-known-state-4 c = search needs
+
+enum-known-operation-4 : tie.Need-enum-known-operation-4
+enum-known-operation-4 c = search needs
+
+step-requires-4 : tie.Need-step-requires-4
+step-requires-4 c κs = rw (c .before .before .before .before .state4 .given .1, c .before .operation4 .given .1) at (c .before .before .before .before .before .before .pre)
+
+unchanged-requires-4 : tie.Need-unchanged-requires-4
+unchanged-requires-4 c κs = search needs
+
 returns : tie.Need-returns
 returns c = rw (c .before .before .before .before .before .state .given .1, c .before .before .operation .given .1) (c .step .ensures)
 
@@ -58,6 +70,12 @@ returns-5 c = rw (c .before .before .before .before .before .state3 .given .1, c
 returns-6 : tie.Need-returns-6
 returns-6 c = rw (c .before .before .before .state3 .given .1) (c .unchanged3 .ensures ∙ not-counter _ (c .before .before .before .before .before .args .operation) (c .before .match4 .keys2))
 
+returns-7 : tie.Need-returns-7
+returns-7 c = rw (c .before .before .before .before .before .state4 .given .1, c .before .before .operation4 .given .1) (c .step4 .ensures)
+
+returns-8 : tie.Need-returns-8
+returns-8 c = rw (c .before .before .before .state4 .given .1) (c .unchanged4 .ensures ∙ not-bin _ (c .before .before .before .before .before .args .operation) (c .before .match5 .keys2))
+
 pub step-spec : {M : Type 1} → statement M
 step-spec =
     tie.close
@@ -74,9 +92,15 @@ step-spec =
     enum-known-operation-3
     step-requires-3
     unchanged-requires-3
+    enum-known-state-4
+    enum-known-operation-4
+    step-requires-4
+    unchanged-requires-4
     returns
     returns-2
     returns-3
     returns-4
     returns-5
-    returns-6)
+    returns-6
+    returns-7
+    returns-8)

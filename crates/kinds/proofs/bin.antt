@@ -1,0 +1,3 @@
+pub mod Acts
+pub mod Exact
+pub mod Claims
