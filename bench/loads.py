@@ -2,9 +2,11 @@
 SIZES = (10, 100, 1000)
 ACCOUNT, REGISTER, COUNTER = "A 1000", "R 7", "K -7"
 DATED_CARD, NEW_CARD = "R 20261115", "R 0"
+FULL_BIN, EMPTY_BIN = "S 4294967295", "S 0"
 BALANCE, DEPOSIT_5, DEPOSIT_7, WITHDRAW_3, READ = "1 0", "2 5", "2 7", "3 3", "4 0"
 UP_3, DOWN_3, COUNT = "6 3", "6 -3", "7 0"
 SAME_DATE, OTHER_DATE = "5 20261115", "5 20271115"
+PUT, TAKE, LOOK = "8 {}".format, "9 {}".format, "10 {}".format
 
 
 class Calls:
@@ -64,6 +66,12 @@ def rescanned(calls, size):
     return [DATED_CARD] * 8 + [NEW_CARD] * 8
 
 
+def binned(calls, size):
+    """Of the jobs at a bin each has a part of its own to put or take, and all ask for part 31, which stays as it is; part 0 is the first to go."""
+    at_once(calls, size, lambda j: ((j % 8, TAKE(j // 8)), ((j + 3) % 8, LOOK(31)), (8 + j % 8, PUT(j // 8)), (8 + (j + 5) % 8, TAKE(31))), LOOK(0))
+    return [FULL_BIN] * 8 + [EMPTY_BIN] * 8
+
+
 def chained(calls, depth, steps):
     chain = [calls.create("N", above) for above in range(depth)]
     for _ in range(steps):
@@ -78,6 +86,7 @@ LOADS = {
     "open": ("all open at once, with waits", all_open),
     "recount": ("all open at once, adjusting counters, with waits", recounted),
     "rescan": ("all open at once, putting the same dates, with waits", rescanned),
+    "bins": ("all open at once, at parts of bins, with waits", binned),
     "deep": ("one chain, 5 deposits at its end", lambda calls, size: chained(calls, size - 5, 5)),
     "late": ("a chain of half, deposits of half at its end", lambda calls, size: chained(calls, size // 2, size // 2)),
 }

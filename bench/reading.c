@@ -1,4 +1,4 @@
-/* Document 01 and requests Q-1 and Q-2 read in C: the product's columns and algorithms (docs/ARCHITECTURE.md), a store lent by pointer. FORM says how each call tests the form
+/* Document 01 and requests Q-1, Q-2 and Q-3 read in C: the product's columns and algorithms (docs/ARCHITECTURE.md), a store lent by pointer. FORM says how each call tests the form
  * of the store first, as the product's calls do. 0: not at all. 1, plain: row by row over all rows. 2, quick: row by row over those in use, and the
  * rest of each column compared with zero as memory. */
 #include <stdbool.h>
@@ -6,7 +6,7 @@
 #include "flarebutton.h"
 enum { OBJECTS = 64, PLACES = 1024, ROWS = PLACES + 1, CALLS = 4096 };
 enum { OPEN, COMMITTED, ABORTED };
-enum { PLAIN, BALANCE, DEPOSIT, WITHDRAW, READ, WRITE, ADJUST, COUNT, OPERATIONS, SHORT = OPERATIONS, STILL, CLASSES };
+enum { PLAIN, BALANCE, DEPOSIT, WITHDRAW, READ, WRITE, ADJUST, COUNT, PUT, TAKE, LOOK, OPERATIONS, SHORT = OPERATIONS, STILL, FOUND, LACKED, CLASSES };
 enum { UNANSWERED, FAIL, OK, VALUE }; /* an answer's a, and 1 */
 typedef struct {
     size_t objects, count, listed;
@@ -27,32 +27,50 @@ static const struct { uint8_t kind, outcomes; int64_t least, most, value_least, 
     [WRITE] = {'R', 1 << UNANSWERED | 1 << OK, 0, 1000000000, 0, 0},
     [ADJUST] = {'K', 1 << UNANSWERED | 1 << OK, -1000000, 1000000, 0, 0},
     [COUNT] = {'K', 1 << UNANSWERED | 1 << VALUE, 0, 0, -2024000000, 2024000000},
+    [PUT] = {'S', 1 << UNANSWERED | 1 << OK | 1 << FAIL, 0, 31, 0, 0},
+    [TAKE] = {'S', 1 << UNANSWERED | 1 << OK | 1 << FAIL, 0, 31, 0, 0},
+    [LOOK] = {'S', 1 << UNANSWERED | 1 << VALUE, 0, 31, 0, 1},
 };
-/* An answer's class is its operation's number; a withdrawal that failed has SHORT, an adjustment by 0 STILL, which conflicts with nothing. Its
- * number is its value, or else its argument. The last three entries conflict if the row's number stands so to the column's. */
-enum { PASS, CONFLICT, UNEQUAL, AT_LEAST, AT_MOST };
+/* An answer's class is its operation's number; a withdrawal that failed has SHORT, an adjustment by 0 STILL, which conflicts with nothing. A put or
+ * take that failed and a look change nothing: FOUND the part in, or LACKED it. An answer's number is its part, or its value, or else its argument. The
+ * last four entries conflict if the row's number stands so to the column's. */
+enum { PASS, CONFLICT, EQUAL, UNEQUAL, AT_LEAST, AT_MOST };
 typedef struct { uint8_t class; int64_t number; } Answered;
 static const uint8_t table[CLASSES][CLASSES] = {
     [BALANCE] = {[DEPOSIT] = CONFLICT, [WITHDRAW] = AT_LEAST}, [WITHDRAW] = {[BALANCE] = AT_MOST, [WITHDRAW] = CONFLICT},
     [DEPOSIT] = {[BALANCE] = CONFLICT, [SHORT] = CONFLICT}, [SHORT] = {[DEPOSIT] = CONFLICT},
     [READ] = {[WRITE] = UNEQUAL}, [WRITE] = {[READ] = UNEQUAL, [WRITE] = UNEQUAL},
     [ADJUST] = {[COUNT] = CONFLICT}, [COUNT] = {[ADJUST] = CONFLICT},
+    [PUT] = {[PUT] = EQUAL, [LACKED] = EQUAL}, [LACKED] = {[PUT] = EQUAL},
+    [TAKE] = {[TAKE] = EQUAL, [FOUND] = EQUAL}, [FOUND] = {[TAKE] = EQUAL},
 };
+static uint8_t class_of(uint8_t operation, int64_t argument, uint8_t outcome, int64_t value) {
+    switch (operation) {
+    case WITHDRAW: return outcome == FAIL ? SHORT : WITHDRAW;
+    case ADJUST: return argument == 0 ? STILL : ADJUST;
+    case PUT: return outcome == FAIL ? FOUND : PUT;
+    case TAKE: return outcome == FAIL ? LACKED : TAKE;
+    case LOOK: return value == 1 ? FOUND : LACKED;
+    default: return operation;
+    }
+}
 static Answered answered(uint8_t operation, int64_t argument, uint8_t outcome, int64_t value) {
-    uint8_t class = outcome == FAIL ? SHORT : operation == ADJUST && argument == 0 ? STILL : operation;
-    return (Answered){class, outcome == VALUE ? value : argument};
+    return (Answered){class_of(operation, argument, outcome, value), outcome == VALUE && operation != LOOK ? value : argument};
 }
 static bool conflict(Answered row, Answered column) {
     switch (table[row.class][column.class]) {
     case PASS: return false;
+    case EQUAL: return row.number == column.number;
     case UNEQUAL: return row.number != column.number;
     case AT_LEAST: return row.number >= column.number;
     case AT_MOST: return row.number <= column.number;
     default: return true;
     }
 }
-static bool is_kind(uint8_t letter) { return letter == 'A' || letter == 'R' || letter == 'K'; }
-static bool opens(uint8_t kind, int64_t opening) { return is_kind(kind) && (kind == 'K' ? -1000000000 : 0) <= opening && opening <= 1000000000; }
+static bool is_kind(uint8_t letter) { return letter == 'A' || letter == 'R' || letter == 'K' || letter == 'S'; }
+static bool opens(uint8_t kind, int64_t opening) {
+    return is_kind(kind) && (kind == 'K' ? -1000000000 : 0) <= opening && opening <= (kind == 'S' ? 4294967295 : 1000000000);
+}
 static bool fits(uint8_t kind, uint32_t operation, int64_t argument) {
     if (OPERATIONS <= operation || operations[operation].kind != kind) return false;
     return operations[operation].least <= argument && argument <= operations[operation].most;
@@ -61,14 +79,25 @@ static bool allows(uint8_t operation, uint8_t outcome, int64_t value) {
     int64_t least = outcome == VALUE ? operations[operation].value_least : 0, most = outcome == VALUE ? operations[operation].value_most : 0;
     return outcome <= VALUE && (operations[operation].outcomes >> outcome & 1) && least <= value && value <= most;
 }
+static bool is_in(int64_t state, int64_t part) { return state >> part & 1; }
 static int64_t after(int64_t state, uint8_t operation, int64_t argument) {
     if (operation == DEPOSIT || operation == ADJUST) return state + argument;
     if (operation == WITHDRAW && argument <= state) return state - argument;
+    if (operation == PUT) return state | (int64_t)1 << argument;
+    if (operation == TAKE) return state & ~((int64_t)1 << argument);
     return operation == WRITE ? argument : state;
 }
 static uint8_t outcome_of(int64_t state, uint8_t operation, int64_t argument) {
-    if (operation == BALANCE || operation == READ || operation == COUNT) return VALUE;
-    return operation == WITHDRAW && state < argument ? FAIL : OK;
+    switch (operation) {
+    case BALANCE: case READ: case COUNT: case LOOK: return VALUE;
+    case WITHDRAW: return state < argument ? FAIL : OK;
+    case PUT: return is_in(state, argument) ? FAIL : OK;
+    case TAKE: return is_in(state, argument) ? OK : FAIL;
+    default: return OK;
+    }
+}
+static int64_t value_of(int64_t state, uint8_t operation, int64_t argument, uint8_t outcome) {
+    return outcome != VALUE ? 0 : operation == LOOK ? is_in(state, argument) : state;
 }
 
 /* The form, each rule in document 01's words. */
@@ -223,12 +252,13 @@ static Answer respond(Store *s, uint32_t t) {
     link_work(s, s->object[t], &chains);
     int64_t state = replayed(s, &chains, s->opening[s->object[t]], t);
     uint8_t outcome = outcome_of(state, s->operation[t], s->argument[t]);
-    uint32_t wait = first_wait(s, t, answered(s->operation[t], s->argument[t], outcome, state));
+    int64_t value = value_of(state, s->operation[t], s->argument[t], outcome);
+    uint32_t wait = first_wait(s, t, answered(s->operation[t], s->argument[t], outcome, value));
     if (wait != 0) return (Answer){13, s->holder[wait], wait};
     s->outcome[t] = outcome;
-    s->value[t] = outcome == VALUE ? state : 0;
+    s->value[t] = value;
     append(s, t, t);
-    return done(outcome - 1u, s->value[t]);
+    return done(outcome - 1u, value);
 }
 
 /* What the masked ones hold goes out of the order, and the rest closes up. Returns how much went. */

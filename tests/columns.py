@@ -1,4 +1,4 @@
-"""A store as flat columns and as bytes, and the form rules of document 01 and request Q-1.
+"""A store as flat columns and as bytes, and the form rules of document 01 and requests Q-1 and Q-3.
 
 from_bytes and to_bytes turn 29,298 bytes into Columns and back.  broken_rule
 names the first form rule that columns break, each rule being one small
@@ -100,6 +100,9 @@ RESULTS = {
     reading.WRITE: {OK: (0, 0)},
     reading.ADJUST: {OK: (0, 0)},
     reading.COUNT: {VALUE: (-LARGEST_COUNT, LARGEST_COUNT)},
+    reading.PUT: {OK: (0, 0), FAIL: (0, 0)},
+    reading.TAKE: {OK: (0, 0), FAIL: (0, 0)},
+    reading.LOOK: {VALUE: (0, 1)},
 }
 
 

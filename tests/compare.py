@@ -1,4 +1,4 @@
-"""Holds the proved programs against the second reading of document 01 and requests Q-1 and Q-2.
+"""Holds the proved programs against the second reading of document 01 and requests Q-1, Q-2 and Q-3.
 
     compare.py FILES SEED      from the project's folder; tests/compare calls it
 
@@ -118,7 +118,7 @@ def some_work(c, chance):
     argument = chance.choice((lowest, (lowest + highest) // 2, highest))  # the middle of an adjustment is 0
     if chance.random() < 0.3:
         object = chance.choice((object, c.objects, c.objects + 1, 64, 256 + object, 2**32 - 1)) % 2**32
-        operation = chance.choice((operation, chance.randrange(9), 256 + operation, 2**32 - 1))
+        operation = chance.choice((operation, chance.randrange(12), 256 + operation, 2**32 - 1))
         argument = chance.choice((argument, argument - 1, argument + 1, -(2**63), 2**63 - 1))
     return object, operation, argument
 
@@ -150,12 +150,11 @@ def some_calls(c, chance, many):
 
 def calls_on(name, c, rule):
     """Few on one out of form, since all are refused; some of each letter on one in form, and more where calls have made it.
-    Where held numbers stand around those that are asked: who asks, asks."""
+    Where calls have made it, and where held numbers stand around those that are asked: who asks, asks."""
     group = name.split(" | ")[1]
-    if group == "number":
-        return [("G", t) for t in stores.asking(c)]
-    many = {"start": 40, "sweep": 1}.get(group, 2 if rule else 8)
-    return list(some_calls(c, random.Random(name), many))
+    asks = [("G", t) for t in stores.asking(c)] if group in ("start", "number") else []
+    many = {"start": 40, "number": 0, "sweep": 1}.get(group, 2 if rule else 8)
+    return asks + list(some_calls(c, random.Random(name), many))
 
 
 def judged(data, rule, call, reply):

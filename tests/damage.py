@@ -4,7 +4,7 @@
     damage.py SEED < FILE      prints the file, damaged
 
 damaged(data, seed) makes one or a few changes to a file: in its bytes, its
-lines, its numbers, their signs or its length.  What comes out may still be a good file.
+lines, its kinds, its numbers, their signs or its length.  What comes out may still be a good file.
 """
 
 import random
@@ -12,8 +12,8 @@ import re
 import sys
 
 LONGEST = 65_536
-STRAY_BYTES = [bytes([byte]) for byte in b"019 \n\r\t\0\x0b-+._AKNu\x7f\x80\xa0\xb2\xff"]
-LIMIT_NUMBERS = [b"0", b"1", b"63", b"64", b"65", b"1024", b"1025", b"4096", b"4097", b"65536", b"1000000", b"1000001", b"1000000000", b"1000000001"]
+STRAY_BYTES = [bytes([byte]) for byte in b"019 \n\r\t\0\x0b-+._AKSNu\x7f\x80\xa0\xb2\xff"]
+LIMIT_NUMBERS = [b"0", b"1", b"31", b"32", b"63", b"64", b"65", b"1024", b"1025", b"4096", b"4097", b"65536", b"1000000", b"1000001", b"1000000000", b"1000000001"]
 LARGE_NUMBERS = [b"2147483648", b"4294967295", b"4294967296", b"4294967297", b"9999999999", b"10000000000"]
 LARGE_NUMBERS += [b"18446744073709551616", b"9" * 40, b"0" * 12]
 
@@ -65,7 +65,7 @@ def letter_changed(data, chance):
         return data
     at = chance.choice(spots)
     letter = data[at:at + 1]
-    return data[:at] + chance.choice([letter.lower(), b"A", b"R", b"K", b"N", b"U", b"G", b"C", b"B", b"X", b"", letter * 2]) + data[at + 1:]
+    return data[:at] + chance.choice([letter.lower(), b"A", b"R", b"K", b"S", b"N", b"U", b"G", b"C", b"B", b"X", b"", letter * 2]) + data[at + 1:]
 
 
 # Lines.
@@ -127,7 +127,7 @@ def leading_zero(data, chance):
 # What a number is -> the lines that have one, the number in brackets.
 PLACES = {
     "count": rb"^(-?[0-9]+)$",
-    "opening": rb"^[ARK] (-?[0-9]+)$",
+    "opening": rb"^[ARKS] (-?[0-9]+)$",
     "parent": rb"^[NU] (-?[0-9]+)\b",
     "object": rb"^U \S+ (-?[0-9]+)\b",
     "operation": rb"^U \S+ \S+ (-?[0-9]+)\b",
@@ -160,6 +160,25 @@ def sign_changed(data, chance):
         return data
     match = chance.choice(chance.choice(places))
     return data[:match.start(1)] + chance.choice(SIGNS)(match.group(1).removeprefix(b"-")) + data[match.end(1):]
+
+
+def kind_changed(data, chance):
+    """Makes an object one of another kind, or of none."""
+    return changed_at(rb"^([ARKS]) ", [b"A", b"R", b"K", b"S", b"S", b"T", b"s"], data, chance)
+
+
+def operation_changed(data, chance):
+    """Puts another operation into an access, mostly one that some kind has."""
+    return changed_at(PLACES["operation"], [b"%d" % operation for operation in range(12)], data, chance)
+
+
+def changed_at(place, choices, data, chance):
+    """Writes one of the choices at a place, if there is one."""
+    found = list(re.finditer(place, data, re.MULTILINE))
+    if not found:
+        return data
+    match = chance.choice(found)
+    return data[:match.start(1)] + chance.choice(choices) + data[match.end(1):]
 
 
 def number_of_another(data, chance):
@@ -261,7 +280,7 @@ def filled(data, chance):
 CHANGES = [
     byte_changed, byte_of_any_value, byte_dropped, byte_doubled, byte_inserted, space_or_end_changed, letter_changed,
     line_dropped, line_doubled, lines_swapped, empty_line,
-    number_changed, leading_zero, sign_changed, number_of_another, count_off_by_one, objects_at_limit, calls_at_limit,
+    number_changed, leading_zero, sign_changed, kind_changed, operation_changed, number_of_another, count_off_by_one, objects_at_limit, calls_at_limit,
     truncated, last_newline_missing, something_after, padded, filled,
 ]
 

@@ -145,12 +145,16 @@ def counter_work(chance):
     return operation, 0 if operation == 7 else either_sign(chance, size)
 
 
+def bin_work(chance):
+    return chance.choice((8, 9, 10)), chance.choice((0, 0, 1, 31, chance.randint(0, 31)))
+
+
 def either_sign(chance, size):
     return chance.choice((size, -size))
 
 
-WORK = {"A": account_work, "R": register_work, "K": counter_work}
-LOOK = {"A": 1, "R": 4, "K": 7}  # the operation that answers what is there
+WORK = {"A": account_work, "R": register_work, "K": counter_work, "S": bin_work}
+LOOK = {"A": 1, "R": 4, "K": 7, "S": 10}  # the operation that answers what is there, a bin's for part 0
 
 # --------------------------------------------------- calls likely to be refused
 
@@ -199,7 +203,7 @@ def beneath_aborted(m):
 def no_such_object(m):
     objects = len(m.objects)
     object = m.chance.choice((objects, objects + 1, 64, 255, 256, 65_536, 2**31, LARGEST))
-    return "U", m.parent(), max(object, objects), m.chance.randrange(9), m.chance.randrange(-2, 3)
+    return "U", m.parent(), max(object, objects), m.chance.randrange(12), m.chance.randrange(-2, 3)
 
 
 # Kind -> an operation of its own and an argument beyond the range.
@@ -207,10 +211,11 @@ BEYOND = {
     "A": [(1, -1), (1, 1), (1, LARGEST), (2, -1), (2, 0), (2, 1_000_001), (2, -LARGEST), (3, -1), (3, 0), (3, 1_000_001), (3, LARGEST)],
     "R": [(4, -1), (4, 1), (4, -LARGEST), (5, -1), (5, -1_000_000_000), (5, 1_000_000_001), (5, LARGEST), (5, -LARGEST)],
     "K": [(6, -1_000_001), (6, 1_000_001), (6, -LARGEST), (6, LARGEST), (6, 2**31), (6, -(2**31)), (7, -1), (7, 1), (7, -LARGEST)],
+    "S": [(8, -1), (8, 32), (8, LARGEST), (9, -1), (9, 32), (9, 33), (9, -LARGEST), (10, -1), (10, 32), (10, 256), (10, 2**31), (10, -(2**31))],
 }
 # Kind -> an operation and argument that fit it.
-FITTING = {"A": [(1, 0), (2, 3), (3, 3)], "R": [(4, 0), (5, 3)], "K": [(6, 0), (6, 3), (6, -3), (7, 0)]}
-UNKNOWN = [(0, 0), (8, 0), (8, -1), (255, 1), (256 + 1, 0), (65_536 + 4, 0), (LARGEST, 0), (LARGEST, -LARGEST)]
+FITTING = {"A": [(1, 0), (2, 3), (3, 3)], "R": [(4, 0), (5, 3)], "K": [(6, 0), (6, 3), (6, -3), (7, 0)], "S": [(8, 0), (9, 3), (10, 0), (10, 31)]}
+UNKNOWN = [(0, 0), (11, 0), (11, -1), (255, 1), (256 + 1, 0), (65_536 + 4, 0), (LARGEST, 0), (LARGEST, -LARGEST)]
 
 
 def unfit_work(m):
@@ -245,8 +250,8 @@ def several_reasons(m):
     letter = chance.choice("NUUUGCB")
     if letter != "U":
         return letter, t
-    arguments = (0, 1, -1, 1_000_001, -1_000_001, LARGEST, -LARGEST)
-    return letter, t, chance.choice((0, len(m.objects), LARGEST)), chance.randrange(9), chance.choice(arguments)
+    arguments = (0, 1, -1, 32, 1_000_001, -1_000_001, LARGEST, -LARGEST)
+    return letter, t, chance.choice((0, len(m.objects), LARGEST)), chance.randrange(12), chance.choice(arguments)
 
 
 REFUSALS = [
@@ -266,14 +271,16 @@ def refusal(m):
 
 
 def some_object(chance, kinds):
-    """An object of one of the kinds, with an opening of any size, a counter's of either sign."""
+    """An object of one of the kinds, with an opening of any size, a counter's of either sign, a bin's of any parts."""
     kind = chance.choice(kinds)
+    if kind == "S":
+        return kind, chance.choice((0, LARGEST, 2**chance.randrange(32), LARGEST - 2**chance.randrange(32), chance.randint(0, LARGEST)))
     size = chance.choice((0, 10, chance.randint(0, 50), chance.randint(0, 1_000), chance.randint(0, 10**9), 10**9))
     return kind, either_sign(chance, size) if kind == "K" else size
 
 
 def some_objects(chance, most=4):
-    return [some_object(chance, "AAARRKKK") for _ in range(chance.randint(1, most))]
+    return [some_object(chance, "AAARRKKKSSS") for _ in range(chance.randint(1, most))]
 
 
 def usual_size(chance):
@@ -428,6 +435,26 @@ def rescans(chance):
     small_jobs(chance, "R", (0, 2), lambda: chance.choice(((4, 0), (5, chance.randint(0, 2)))))
 
 
+def bins(chance):
+    """Bins: put, take and look, of few parts."""
+    small_jobs(chance, "S", (0, LARGEST), lambda: (chance.choice((8, 9, 10)), chance.choice((0, 1, 31))))
+
+
+def in_and_out(chance):
+    """Bins: a job puts, takes and looks for a part, its numbers in any order; then others do so beside it, for that part or another."""
+    m = Maker(chance, [("S", chance.randint(0, LARGEST)) for _ in range(chance.randint(1, 2))], usual_size(chance))
+    while True:
+        job, object, part = m.plain(m.parent()), m.object(), chance.choice((0, 1, 31))
+        steps = [m.access(job, object, operation, part) for operation in chance.sample((8, 9, 10), 3)]
+        for t in chance.sample(steps, 3):
+            if m.respond(t) == 0 and chance.random() < 0.8:
+                m.commit(t)
+        for _ in range(2):
+            m.respond(m.access(m.parent(), object, chance.choice((8, 9, 10)), chance.choice((part, part, 0, 31))))
+        for _ in range(2):
+            one_action(m, (0, 0, 3, 6, 2, 1))
+
+
 def deep(chance):
     """A chain; work at its bottom is committed up while another asks for the same."""
     m = Maker(chance, some_objects(chance, 2))
@@ -543,7 +570,7 @@ def long(chance):
 def many_objects(chance):
     """Up to 64 objects, each with work."""
     count = chance.choice((64, 64, 63, chance.randint(8, 62)))
-    m = Maker(chance, [some_object(chance, "ARK") for _ in range(count)], chance.randint(60, 250))
+    m = Maker(chance, [some_object(chance, "ARKS") for _ in range(count)], chance.randint(60, 250))
     while True:
         one_action(m, (2, 5, 6, 4, 0.4, 0.5))
 
@@ -554,7 +581,7 @@ def refused_opening(chance):
     at = chance.randrange(len(objects))
     kind, beyond = objects[at][0], chance.choice((1_000_000_001, 1_000_000_002, 2_024_000_000, 2**31 - 1, 2**31, LARGEST))
     below = chance.choice((-beyond, -1, -10**9)) if kind != "K" else -beyond
-    objects[at] = kind, chance.choice((beyond, below))
+    objects[at] = kind, chance.choice((beyond, below)) if kind != "S" else below
     if chance.random() < 0.2:
         objects = []
     lines = [chance.choice(("N 0", "U 0 0 1 0", "G 1", "C 1", "B 0")) for _ in range(chance.choice((0, 1, 5, 30)))]
@@ -585,6 +612,8 @@ SHAPES = {
     "put and drawn": (put_and_drawn, 5),
     "recounts": (recounts, 7),
     "rescans": (rescans, 7),
+    "bins": (bins, 7),
+    "in and out": (in_and_out, 5),
     "deep": (deep, 4),
     "wide": (wide, 4),
     "full": (full, 8),

@@ -1,5 +1,5 @@
 #!/usr/bin/env python3
-"""An independent reading of document 01 and requests Q-1 and Q-2: the lock store and its runner.
+"""An independent reading of document 01 and requests Q-1, Q-2 and Q-3: the lock store and its runner.
 
     reading.py < FILE      prints what the runner prints on FILE
     reading.py FILE ...    prints, for each file, its base name and then that
@@ -52,7 +52,7 @@ def signed(field):
 
 
 # Letter -> what reads each of the fields that follow it.
-OBJECT_LETTERS = {b"A": (signed,), b"R": (signed,), b"K": (signed,)}
+OBJECT_LETTERS = {b"A": (signed,), b"R": (signed,), b"K": (signed,), b"S": (signed,)}
 CALL_LETTERS = {
     b"N": (number,),
     b"U": (number, number, number, signed),
@@ -106,20 +106,25 @@ def read_run_file(data):
 
 # --------------------------------------------------------- objects and numbers
 
-BALANCE, DEPOSIT, WITHDRAW, READ, WRITE, ADJUST, COUNT = 1, 2, 3, 4, 5, 6, 7
+BALANCE, DEPOSIT, WITHDRAW, READ, WRITE, ADJUST, COUNT, PUT, TAKE, LOOK = range(1, 11)
+WHOLE = (BALANCE, READ, COUNT)  # these answer the whole state
 
 # Kind -> lowest and highest opening.
 OPENINGS = {
     "A": (0, 1_000_000_000),
     "R": (0, 1_000_000_000),
     "K": (-1_000_000_000, 1_000_000_000),
+    "S": (0, 4_294_967_295),
 }
+
+PARTS = (0, 31)  # lowest and highest
 
 # Kind -> operation -> lowest and highest argument.
 OPERATIONS = {
     "A": {BALANCE: (0, 0), DEPOSIT: (1, 1_000_000), WITHDRAW: (1, 1_000_000)},
     "R": {READ: (0, 0), WRITE: (0, 1_000_000_000)},
     "K": {ADJUST: (-1_000_000, 1_000_000), COUNT: (0, 0)},
+    "S": {PUT: PARTS, TAKE: PARTS, LOOK: PARTS},
 }
 
 # A result is the a, b of an answered response.
@@ -136,9 +141,14 @@ def within(value, limits):
     return lowest <= value <= highest
 
 
+def is_in(state, part):
+    """Whether a bin of this state has this part, which its binary digits say."""
+    return state // 2**part % 2 == 1
+
+
 def serial(state, operation, argument):
     """The serial object: (result, state after)."""
-    if operation in (BALANCE, READ, COUNT):
+    if operation in WHOLE:
         return value_of(state), state
     if operation in (DEPOSIT, ADJUST):
         return OK, state + argument
@@ -146,12 +156,18 @@ def serial(state, operation, argument):
         return (OK, state - argument) if state >= argument else (FAIL, state)
     if operation == WRITE:
         return OK, argument
+    if operation == PUT:
+        return (FAIL, state) if is_in(state, argument) else (OK, state + 2**argument)
+    if operation == TAKE:
+        return (OK, state - 2**argument) if is_in(state, argument) else (FAIL, state)
+    if operation == LOOK:
+        return value_of(1 if is_in(state, argument) else 0), state
     raise ValueError(operation)
 
 
 # ---------------------------------------------------------- the conflict table
 
-# Operation and a of its result -> class of answer; an adjustment by 0 is a class of its own.
+# Operation and a of its result -> class of answer; an adjustment by 0 is a class of its own, and so is each answer of a look.
 CLASSES = {
     (BALANCE, 2): "balance",
     (DEPOSIT, 1): "deposit",
@@ -161,12 +177,17 @@ CLASSES = {
     (WRITE, 1): "write",
     (ADJUST, 1): "adjust",
     (COUNT, 2): "count",
+    (PUT, 1): "put OK",
+    (PUT, 0): "put FAIL",
+    (TAKE, 1): "take OK",
+    (TAKE, 0): "take FAIL",
 }
 
 COLUMNS = {
     "A": ("balance", "deposit", "withdraw OK", "withdraw FAIL"),
     "R": ("read", "write"),
     "K": ("adjust", "adjust by 0", "count"),
+    "S": ("put OK", "take FAIL", "look 0", "take OK", "put FAIL", "look 1"),
 }
 
 # "if" entries: conflict if the row's number stands so to the column's.
@@ -186,26 +207,44 @@ ROWS = {
         "adjust by 0": ("pass",     "pass", "pass"),
         "count":       ("conflict", "pass", "pass"),
     },
+    # The first three need the part out, the others need it in; the first of each changes that.
+    "S": {
+        "put OK":    ("if ==", "if ==", "if ==", "pass",  "pass",  "pass"),
+        "take FAIL": ("if ==", "pass",  "pass",  "pass",  "pass",  "pass"),
+        "look 0":    ("if ==", "pass",  "pass",  "pass",  "pass",  "pass"),
+        "take OK":   ("pass",  "pass",  "pass",  "if ==", "if ==", "if =="),
+        "put FAIL":  ("pass",  "pass",  "pass",  "if ==", "pass",  "pass"),
+        "look 1":    ("pass",  "pass",  "pass",  "if ==", "pass",  "pass"),
+    },
 }
 
 ENTRIES = {
     "pass": lambda row, column: False,
     "conflict": lambda row, column: True,
+    "if ==": lambda row, column: row == column,
     "if !=": lambda row, column: row != column,
     "if >=": lambda row, column: row >= column,
     "if <=": lambda row, column: row <= column,
 }
 
-# What a table judges; the number is the value of a balance, a read or a count, and the argument of anything else.
+# What a table judges; the number is the value of a balance, a read or a count, and the argument of anything else, a look's part too.
 Answered = collections.namedtuple("Answered", "answer_class number")
+
+
+def class_of(access, result):
+    """The class of this access's answer, if the result is this."""
+    a, b = result
+    if (access.operation, access.argument) == (ADJUST, 0):
+        return "adjust by 0"
+    if access.operation == LOOK:
+        return f"look {b}"
+    return CLASSES[access.operation, a]
 
 
 def answered(access, result):
     """This access with its answer, if the result is this."""
-    a, b = result
-    if (access.operation, access.argument) == (ADJUST, 0):
-        return Answered("adjust by 0", 0)
-    return Answered(CLASSES[access.operation, a], b if a == 2 else access.argument)
+    _, b = result
+    return Answered(class_of(access, result), b if access.operation in WHOLE else access.argument)
 
 
 def by_rows(rows):

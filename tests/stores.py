@@ -1,5 +1,5 @@
 #!/usr/bin/env python3
-"""Stores on both sides of each form rule of document 01 and request Q-1.
+"""Stores on both sides of each form rule of document 01 and requests Q-1 and Q-3.
 
     stores.py      makes them all, checks them and counts them by rule
 
@@ -9,7 +9,8 @@ the few that a consistent change takes.  Most changes carry by hand the rule
 they are meant to break (None: still in form); it must be what
 columns.broken_rule finds.  The rest are marked COMPUTED.  Some stay in form
 and stand on both sides of each condition of the conflict table, which calls
-cannot always bring about: a balance below a withdrawal that is held.
+cannot always bring about: a balance below a withdrawal that is held, a part
+that is held as found in and alone beside one that asks and finds it out.
 """
 
 import collections
@@ -128,6 +129,29 @@ def counters_at_the_limits():
     return store
 
 
+def bins():
+    """Parts put, taken and looked for, with either answer: on their own lists, a job's and the root's, aborted, and waiting."""
+    store = opened("S 5", "S 4294967290", "A 5", "K 5")
+    play(store, "N 0 / U 1 0 9 0 / G 2 / C 2 / U 1 0 8 2 / G 3 / C 3 / U 1 0 10 0 / G 4 / C 4 / U 1 0 8 1 / G 5 / U 1 0 9 3 / G 6")
+    play(store, "N 0 / U 7 1 10 0 / G 8 / C 8 / U 7 1 10 1 / G 9 / U 7 1 8 2 / G 10 / B 10 / U 7 1 9 0 / G 11 / U 0 1 9 31 / G 12 / C 12")
+    codes = play(store, "U 0 0 10 0 / G 13 / U 0 0 8 1 / G 14 / U 0 0 9 3 / G 15 / U 0 1 8 0 / G 16 / U 0 1 9 1 / G 17 / U 0 1 10 31 / G 18 / C 18")
+    assert codes == [0, 13, 0, 13, 0, 0, 0, 13, 0, 13, 0, 0, 0]
+    return store
+
+
+def bins_at_the_limits():
+    """Openings, part numbers and what a look finds at the ends of their ranges."""
+    store = opened("S 0", "S 4294967295", "S 2147483648")
+    works = ["0 10 0", "0 10 31", "0 9 0", "0 8 31", "1 10 31", "1 8 0", "1 9 31", "1 10 31", "2 9 31", "2 8 0", "2 10 0"]
+    for work in works:
+        play(store, f"U 0 {work}")
+        t = len(store.transactions) - 1
+        play(store, f"G {t} / C {t}")
+    for work in works:
+        play(store, f"U 0 {work}")
+    return store
+
+
 def held_and_asking():
     """A balance, a withdrawal, a read and a write, each held on an object of its own; every step of its kind asks beside it."""
     store = opened("A 10", "A 10", "R 7", "R 7")
@@ -138,11 +162,25 @@ def held_and_asking():
     return store
 
 
+def parts_held_and_asking():
+    """Each answer that a bin gives, held on a bin of its own, which has a part of these two and lacks the other; all of them ask beside it."""
+    parts = ((0, 31), (31, 0), (5, 6), (6, 5), (16, 15), (30, 1))  # in, out
+    store = opened(*(f"S {2**part_in}" for part_in, _ in parts))
+    for object, ((part_in, part_out), held) in enumerate(zip(parts, ("8 out", "8 in", "9 in", "9 out", "10 in", "10 out"))):
+        work = held.replace("in", str(part_in)).replace("out", str(part_out))
+        play(store, f"U 0 {object} {work} / G {object + 1}")
+    play(store, "N 0")
+    for object, part in ((object, part) for object, both in enumerate(parts) for part in both):
+        play(store, f"U 7 {object} 8 {part} / U 7 {object} 9 {part} / U 7 {object} 10 {part}")
+    return store
+
+
 def many_objects():
     """64 objects with work on each, under a job for every eight."""
-    works = {"A": "2 3", "R": "5 4", "K": "6 -3"}
-    kinds = ["ARK"[o % 3] for o in range(64)]
-    store = opened(*(f"{kind} {o * (-15_000_000 if kind == 'K' else 15_000_000)}" for o, kind in enumerate(kinds)))
+    works = {"A": "2 3", "R": "5 4", "K": "6 -3", "S": "8 30"}
+    sizes = {"A": 15_000_000, "R": 15_000_000, "K": -15_000_000, "S": 60_000_000}
+    kinds = ["ARKS"[o % 4] for o in range(64)]
+    store = opened(*(f"{kind} {o * sizes[kind]}" for o, kind in enumerate(kinds)))
     for job in range(8):
         play(store, "N 0")
     for o in range(63):  # none on the last
@@ -192,13 +230,13 @@ def full_of_adjustments():
 def full_and_mixed():
     """1,024 transactions of all sorts, from a seed."""
     chance = random.Random(1_024)
-    store = opened("A 900", "R 3", "A 0", "R 9", "K -30")
-    works = ((0, 1), (0, 2), (0, 2), (2, 2), (0, 3), (2, 3), (1, 4), (3, 4), (1, 5), (3, 5), (4, 6), (4, 6), (4, 7))
+    store = opened("A 900", "R 3", "A 0", "R 9", "K -30", "S 5")
+    works = ((0, 1), (0, 2), (0, 2), (2, 2), (0, 3), (2, 3), (1, 4), (3, 4), (1, 5), (3, 5), (4, 6), (4, 6), (4, 7), (5, 8), (5, 9), (5, 10))
     while len(store.transactions) <= 1_024:
         last = len(store.transactions) - 1
         near = chance.randint(max(0, last - 40), last) if chance.random() < 0.9 else 0
         object, operation = chance.choice(works)
-        argument = 0 if operation in (1, 4, 7) else chance.randint(-50 if operation == 6 else 1, 50)
+        argument = 0 if operation in (1, 4, 7) else chance.randint(0, 3) if object == 5 else chance.randint(-50 if operation == 6 else 1, 50)
         call = chance.choice((f"N {near}", f"U {near} {object} {operation} {argument}", f"G {near}", f"G {near}", f"C {near}", f"C {near}"))
         play(store, call if chance.random() < 0.98 else f"B {near}")
     return store
@@ -214,7 +252,10 @@ STARTS = {
     "limits": at_the_limits,
     "counters": counters,
     "counter limits": counters_at_the_limits,
+    "bins": bins,
+    "bin limits": bins_at_the_limits,
     "asking": held_and_asking,
+    "parts": parts_held_and_asking,
     "objects": many_objects,
     "deep": deep_chain,
     "listed": full_of_listed,
@@ -256,7 +297,7 @@ def on_lists(c):
 
 def asking(c):
     """Open accesses that are not answered, the first few."""
-    return [t for t in columns.unanswered(c) if c.state[t] == 0][:12]
+    return [t for t in columns.unanswered(c) if c.state[t] == 0][:36]
 
 
 def path(c, t):
@@ -285,13 +326,29 @@ def at_or_beneath(c, t):
 LARGE_COUNTS = (2**8, 2**16, 2**32, 2**63, 2**64 - 1)
 EXTREMES = (-(2**63), -(2**32), -(2**31), 2**31, 2**32, 2**63 - 1)
 
-OPERATIONS_OF = {"A": (1, 2, 3), "R": (4, 5), "K": (6, 7)}
-FIT_WITH_ZERO = {"A": (1,), "R": (4, 5), "K": (6, 7)}
-UNKNOWN_KINDS = "BJLQSakr"
-GOOD_OPENINGS = {"A": (0, 1, 999_999_999, 1_000_000_000), "R": (0, 1, 999_999_999, 1_000_000_000), "K": (-1_000_000_000, -1, 0, 1_000_000_000)}
-BAD_OPENINGS = {"A": (-1, 1_000_000_001), "R": (-1, 1_000_000_001), "K": (-1_000_000_001, 1_000_000_001)}
-OUTCOMES_OF = {1: (3,), 2: (2,), 3: (1, 2), 4: (3,), 5: (2,), 6: (2,), 7: (3,)}
-GOOD_ARGUMENTS = {1: (0,), 2: (1, 1_000_000), 3: (1, 1_000_000), 4: (0,), 5: (0, 1_000_000_000), 6: (-1_000_000, -1, 0, 1_000_000), 7: (0,)}
+OPERATIONS_OF = {"A": (1, 2, 3), "R": (4, 5), "K": (6, 7), "S": (8, 9, 10)}
+FIT_WITH_ZERO = {"A": (1,), "R": (4, 5), "K": (6, 7), "S": (8, 9, 10)}
+UNKNOWN_KINDS = "BJLQTakrs"
+GOOD_OPENINGS = {  # from the lowest to the highest
+    "A": (0, 1, 999_999_999, 1_000_000_000),
+    "R": (0, 1, 999_999_999, 1_000_000_000),
+    "K": (-1_000_000_000, -1, 0, 1_000_000_000),
+    "S": (0, 1, 1_000_000_001, 2**31, 4_294_967_295),
+}
+BAD_OPENINGS = {"A": (-1, 1_000_000_001), "R": (-1, 1_000_000_001), "K": (-1_000_000_001, 1_000_000_001), "S": (-1, 4_294_967_296)}
+OUTCOMES_OF = {1: (3,), 2: (2,), 3: (1, 2), 4: (3,), 5: (2,), 6: (2,), 7: (3,), 8: (1, 2), 9: (1, 2), 10: (3,)}
+GOOD_ARGUMENTS = {
+    1: (0,),
+    2: (1, 1_000_000),
+    3: (1, 1_000_000),
+    4: (0,),
+    5: (0, 1_000_000_000),
+    6: (-1_000_000, -1, 0, 1_000_000),
+    7: (0,),
+    8: (0, 1, 31),
+    9: (0, 1, 31),
+    10: (0, 1, 31),
+}
 BAD_ARGUMENTS = {
     1: (-1, 1),
     2: (-1, 0, 1_000_001, 2**32 + 1),
@@ -300,8 +357,22 @@ BAD_ARGUMENTS = {
     5: (-1, 1_000_000_001, 2**32 + 1),
     6: (-1_000_001, 1_000_001, 2**32 + 1, -(2**32) - 1),
     7: (-1, 1),
+    8: (-1, 32, 256, 2**32 + 1),
+    9: (-1, 32, 256, 2**32 + 1),
+    10: (-1, 32, 256, 2**32 + 1),
 }
-GOOD_VALUES = {1: (0, 2_024_000_000), 2: (0,), 3: (0,), 4: (0, 1_000_000_000), 5: (0,), 6: (0,), 7: (-2_024_000_000, -1, 0, 2_024_000_000)}
+GOOD_VALUES = {
+    1: (0, 2_024_000_000),
+    2: (0,),
+    3: (0,),
+    4: (0, 1_000_000_000),
+    5: (0,),
+    6: (0,),
+    7: (-2_024_000_000, -1, 0, 2_024_000_000),
+    8: (0,),
+    9: (0,),
+    10: (0, 1),
+}
 BAD_VALUES = {
     1: (-1, 2_024_000_001),
     2: (-1, 1),
@@ -310,6 +381,9 @@ BAD_VALUES = {
     5: (-1, 1),
     6: (-1, 1),
     7: (-2_024_000_001, 2_024_000_001),
+    8: (-1, 1),
+    9: (-1, 1),
+    10: (-1, 2, 3),
 }
 
 
@@ -347,8 +421,9 @@ def around_kind(c, chance):
             yield f"kind of {o} is {letter}", KIND, [("kind", o, letter)]
         used = any(c.object[t] == o for t in columns.accesses(c))
         for other in [kind for kind in OPERATIONS_OF if kind != chr(c.kind[o])]:
-            below = c.opening[o] < 0 and other != "K"
-            yield f"kind of {o} is {other}", OPENING if below else WORK if used else None, [("kind", o, ord(other))]
+            lowest, *_, highest = GOOD_OPENINGS[other]
+            beyond = not lowest <= c.opening[o] <= highest
+            yield f"kind of {o} is {other}", OPENING if beyond else WORK if used else None, [("kind", o, ord(other))]
     if c.objects < 64:
         more = ("objects", None, c.objects + 1)
         for letter, openings in GOOD_OPENINGS.items():
@@ -363,7 +438,8 @@ def around_opening(c, chance):
         kind = chr(c.kind[o])
         for good in GOOD_OPENINGS[kind]:
             yield f"opening of {o} is {good}", None, [("opening", o, good)]
-        for bad in (*BAD_OPENINGS[kind], *chance.sample(EXTREMES, 3)):
+        extremes = [extreme for extreme in EXTREMES if extreme not in GOOD_OPENINGS[kind]]
+        for bad in (*BAD_OPENINGS[kind], *chance.sample(extremes, 3)):
             yield f"opening of {o} is {bad}", OPENING, [("opening", o, bad)]
 
 
@@ -400,6 +476,8 @@ def after_operation(c, t, new):
         return RESULT if outcome == 1 else None
     if (old, new) in ((4, 5), (7, 6)) or (old, new) in ((5, 4), (6, 7)) and c.argument[t] == 0:
         return RESULT if outcome else None
+    if 8 <= old:
+        return RESULT if outcome and 10 in (old, new) else None
     return WORK  # balance has argument 0, its neighbours never; a write or an adjustment other than 0 is no read or count
 
 
@@ -410,7 +488,7 @@ def around_work(c, chance):
         for o in some(chance, range(c.objects)):
             fits = c.kind[o] == c.kind[c.object[t]]
             yield f"object of {t} is {o}", None if fits else WORK, [("object", t, o)]
-        for new in (*range(9), chance.choice((9, 128 + c.operation[t], 255))):
+        for new in (*range(12), chance.choice((12, 128 + c.operation[t], 255))):
             yield f"operation of {t} is {new}", after_operation(c, t, new), [("operation", t, new)]
         for good in GOOD_ARGUMENTS[c.operation[t]]:
             yield f"argument of {t} is {good}", None, [("argument", t, good)]
@@ -464,7 +542,7 @@ def put_on_list(c, t, holder):
 
 def number_of(c, t):
     """Where the number stands by which an answered access is judged, and its lowest and highest."""
-    if c.outcome[t] == columns.VALUE:
+    if c.operation[t] in reading.WHOLE:
         return "value", columns.RESULTS[c.operation[t]][columns.VALUE]
     return "argument", reading.OPERATIONS[chr(c.kind[c.object[t]])][c.operation[t]]
 
@@ -473,8 +551,9 @@ def around_number(c, chance):
     """Held beside one that asks, the number just below the asking one's, equal to it and just above: in form, and judged by the conflict table."""
     store = columns.store_of(c)
     asked = {t: reading.answered(store.transactions[t], store.result_of(t)) for t in asking(c)}
+    classes = {t: reading.class_of(store.transactions[t], store.transactions[t].result) for t in on_lists(c)}
     beside = [(t, held) for t in asked for held in on_lists(c) if c.object[held] == c.object[t] and c.holder[held] not in path(c, t)]
-    for t, held in one_of_each(beside, lambda pair: (asked[pair[0]].answer_class, c.operation[pair[1]], c.outcome[pair[1]])):
+    for t, held in one_of_each(beside, lambda pair: (asked[pair[0]].answer_class, classes[pair[1]])):
         field, limits = number_of(c, held)
         for number in range(asked[t].number - 1, asked[t].number + 2):
             if reading.within(number, limits):
@@ -558,7 +637,7 @@ def around_unused(c, chance):
     for t in sorted({*some(chance, columns.plains(c), 2), *some(chance, childless, 1)}):
         for field, value in (("object", 1), ("argument", 1), ("argument", -1), ("outcome", 2), ("value", -1), ("holder", t), ("place", 1)):
             yield f"{field} of plain {t} is {value}", UNUSED, [(field, t, value)]
-        for operation in (*range(1, 9), 255):
+        for operation in (*range(1, 12), 255):
             # On object 0, with argument 0 and no answer.
             fits = c.objects > 0 and operation in FIT_WITH_ZERO[chr(c.kind[0])]
             rule = PARENT_PLAIN if t in parents else None if fits else WORK
@@ -589,7 +668,9 @@ def every_unused(c):
         yield f"{field} of unused {index}", UNUSED, [(field, index, 1)]
 
 
+# Of equal stores only the first is kept, and those of "number" are asked the most.
 AROUND = {
+    "number": around_number,
     "objects": around_objects,
     "transactions": around_transactions,
     "kind": around_kind,
@@ -598,7 +679,6 @@ AROUND = {
     "work": around_work,
     "state": around_state,
     "result": around_result,
-    "number": around_number,
     "list": around_list,
     "unanswered": around_unanswered,
     "order": around_order,

@@ -6,7 +6,7 @@ usage: vectors.py FOLDER
 import os
 import sys
 
-from reading import ADJUST, BALANCE, COUNT, DEPOSIT, READ, WITHDRAW, WRITE, Store, call
+from reading import ADJUST, BALANCE, COUNT, DEPOSIT, LOOK, PUT, READ, TAKE, WHOLE, WITHDRAW, WRITE, Store, call
 
 
 def file_of(objects, calls):
@@ -73,6 +73,26 @@ def count_and_back():
     return file_of(["K -1000000000"], calls + steps_to_root(513, 1023, ADJUST, 1000000) + steps_to_root(1024, 1024, COUNT, 0))
 
 
+def every_two_parts():
+    """32 bins, empty and full in turn, and all the numbers there are: in each bin one part is put or taken, and the 31 others are looked for meanwhile."""
+    objects, calls, t = [], [], 0
+    for part in range(32):
+        objects.append(("S 0", "S 4294967295")[part % 2])
+        steps = [((PUT, TAKE)[part % 2], part)] + [(LOOK, other) for other in range(32) if other != part]
+        for operation, argument in steps:
+            t += 1
+            calls += ["U 0 %d %d %d" % (part, operation, argument), "G %d" % t]
+    return file_of(objects, calls)
+
+
+def in_and_out():
+    """A part put and taken in turn, by as many steps as leave a number for a look."""
+    calls = []
+    for t in range(1, 1024):
+        calls += steps_to_root(t, t, (TAKE, PUT)[t % 2], 31)
+    return file_of(["S 0"], calls + ["U 0 0 %d 31" % LOOK, "G 1024"])
+
+
 def chain(first, last, top):
     """Plain transactions `first` to `last`, each under the one before, the first under `top`."""
     return ["N %d" % top] + ["N %d" % t for t in range(first, last)]
@@ -99,6 +119,20 @@ def deep_work():
         calls += ["N %d" % parent, "U %d 0 %d 1" % (t + 1, DEPOSIT), "G %d" % (t + 2), "C %d" % (t + 2)]
         parent, t = t + 1, t + 2
     return file_of(["A 10"], calls + ["U %d 0 %d 0" % (parent, BALANCE), "G %d" % (t + 1), "U 0 0 %d 0" % BALANCE, "G %d" % (t + 2)])
+
+
+def deep_bin():
+    """495 levels, a step at each: all 32 parts put, one after the other, all taken, and so on; the bottom looks for them all, and the root for the
+    first and the last."""
+    calls, parent, t = [], 0, 0
+    for level in range(495):
+        operation = (PUT, TAKE)[level // 32 % 2]
+        calls += ["N %d" % parent, "U %d 0 %d %d" % (t + 1, operation, level % 32), "G %d" % (t + 2), "C %d" % (t + 2)]
+        parent, t = t + 1, t + 2
+    for looking, part in [(parent, part) for part in range(32)] + [(0, 0), (0, 31)]:
+        t += 1
+        calls += ["U %d 0 %d %d" % (looking, LOOK, part), "G %d" % t]
+    return file_of(["S 0"], calls)
 
 
 def deep_abort():
@@ -142,9 +176,10 @@ class Chance:
         return choices[self.below(len(choices))]
 
 
-WORKS = {"A": [BALANCE, DEPOSIT, WITHDRAW, WITHDRAW], "R": [READ, WRITE], "K": [ADJUST, ADJUST, COUNT]}
+WORKS = {"A": [BALANCE, DEPOSIT, WITHDRAW, WITHDRAW], "R": [READ, WRITE], "K": [ADJUST, ADJUST, COUNT], "S": [PUT, TAKE, LOOK]}
 UNSIGNED = [0, 1, 5, 1000000, 1000001, 4294967295]
 SIGNED = UNSIGNED + [-1, -5, -1000000, -1000001, -4294967295]
+PARTS = [0, 1, 31, 32, 33, 4294967295, -1, -4294967295]
 
 
 def mixed(seed, objects, reach, operations=7, arguments=UNSIGNED, amounts=20):
@@ -175,10 +210,12 @@ def mixed(seed, objects, reach, operations=7, arguments=UNSIGNED, amounts=20):
             return ("N", chance.of(plain + [0]))
         o = chance.below(len(objects))
         operation = chance.of(WORKS[objects[o][0]])
-        if operation in (BALANCE, READ, COUNT):
+        if operation in WHOLE:
             argument = 0
         elif operation == ADJUST:
             argument = chance.below(7) - 3
+        elif operation in (PUT, TAKE, LOOK):
+            argument = chance.of((0, 5, 31))
         else:
             argument = 1 + chance.below(amounts)
         return ("U", chance.of(plain + [0]), o, operation, argument)
@@ -211,15 +248,19 @@ FILES = {
     "edge-count-and-back": count_and_back(),
     "edge-bound-above": to_the_bound(1),
     "edge-bound-below": to_the_bound(-1),
+    "edge-bin-every-two-parts": every_two_parts(),
+    "edge-bin-in-and-out": in_and_out(),
     "deep-commits": deep_commits(),
     "deep-full": deep_full(),
     "deep-work": deep_work(),
+    "deep-bin": deep_bin(),
     "deep-abort": deep_abort(),
     "many-objects": many_objects(),
     "mixed-two-objects": mixed(1, ["A 10", "R 7"], 12),
     "mixed-eight-objects": mixed(9, ["A 10", "R 7", "A 0", "R 0", "A 1000000000", "R 1000000000", "A 30", "A 5"], 30),
     "mixed-counters": mixed(3, ["K -5", "A 10", "K 1000000000", "R 7", "K -1000000000"], 20, 9, SIGNED),
     "mixed-equal-numbers": mixed(12, ["R 1", "A 2", "R 2", "A 0", "R 3"], 16, amounts=3),
+    "mixed-bins": mixed(10, ["S 2147483648", "A 10", "S 33", "R 7", "S 4294967295", "K -5"], 14, 12, PARTS),
 }
 
 

@@ -1,4 +1,4 @@
-"""Counts the responses that must wait, by the table of request Q-2 and by two coarser ones.
+"""Counts the responses that must wait, by the table of requests Q-2 and Q-3 and by two coarser ones.
 
     waits.py FILES SEED      from the project's folder; tests/waits calls it
 
@@ -14,7 +14,7 @@ import loads
 import reading
 
 MUST_WAIT = 13
-LOOKS = {"balance", "read", "count"}
+LOOKS = {"balance", "read", "count", "look 0", "look 1"}
 
 
 def without_conditions(rows):
@@ -31,8 +31,8 @@ def locks(kind, one, other):
 
 
 TABLES = {
-    "request Q-2": reading.conflicts,
-    "document 01 and Q-1": reading.by_rows(without_conditions(reading.ROWS)),
+    "requests Q-2 and Q-3": reading.conflicts,
+    "by class alone": reading.by_rows(without_conditions(reading.ROWS)),
     "read/write locks": locks,
 }
 HEAD = ["Run files", "Responses asked", *(f"Waits, {table}" for table in TABLES)]
