@@ -167,7 +167,8 @@ alike-is-same kind s t (counter {z}) (counter {z = y}) alike = ap K.counterOf (c
 alike-is-same kind s t (bin {n} h) (bin {n = m} k) alike = ap B.binOf (bin-exact.same n m alike)
 
 -- Document 01: no balance can exceed the largest opening and 1,024 deposits of the largest size; request Q-1: a count stays as far within either side of
--- zero; request Q-3: a bin has parts 0 to 31 and no other (`no-other-parts`, bin/Claims.antt). From an accepted opening, after at most 1,024 operations that `decode` lets through, the object is in a state of its kind and within its bound.
+-- zero; request Q-3: a bin has parts 0 to 31 and no other (`no-other-parts`, bin/Claims.antt). From an accepted opening, after at most 1,024 operations
+-- that `decode` lets through, the object is in a state of its kind and within its bound.
 pub largest-balance : A.openingMost + 1024 * A.amountMost ≡ A.balanceMost
 largest-balance = refl
 
