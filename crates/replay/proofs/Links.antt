@@ -1,20 +1,20 @@
--- The laws of chains: a step on one, and what a write does to each.
-use Prim.Native.Nat.{ℕ, zero, suc, _+_, _<_, _≤_}
+-- The laws of chains: a step on one, what a changed link does to each, and the pass that makes them.
+use Prim.Native.Nat.{ℕ, zero, suc, _+_, _-_, _<_, _≤_}
 use mathlib.Core.Path.{_≡_, refl, sym, ap, _∙_, subst, subst₂}
-use mathlib.Core.Bool.{Bool, true, false, and-false}
 use mathlib.Core.Logic.{⊎-elim}
 use mathlib.Core.List.{List, [], _∷_}
 use native.Mathlib.Omega.{arith}
 use lib.Dec.{eqb}
-use lib.ListN.{length, set, drop, length-set, length-drop, drop-of-length-le}
-use lib.Seq.{getD-set-same, getD-set-other, drop-cons, getD-drop}
+use lib.ListN.{length, set, length-set, length-drop}
+use lib.Seq.{getD-set-same, getD-set-other, getD-drop}
 use borrow.Author.Tests.{eq-eqb, ne-eqb}
 use Rattle.below.proofs.Tests.{bool-or, same-or}
 use Rattle.columns.specs.Column.{at, rowsMost}
-use Rattle.columns.specs.Work.{work, only, onList, listIn}
+use Rattle.columns.specs.Work.{work, onList, listIn}
 use Rattle.columns.proofs.Once.{Misses}
-use Rattle.columns.proofs.Work.{cons-hit, cons-miss, only-nil, only-each, length-work, work-at}
+use Rattle.columns.proofs.Work.{only-each, length-work, work-at}
 use Rattle.replay.specs.Chain.{Chain, chainIn, Linked, Linkable}
+use Rattle.replay.proofs.Past.{past, pastOf, past-none, past-other, past-off, past-on, entry-some, entry-row}
 
 -- the chain says which list it is
 pub chain-in : (steps : ℕ) (next : List ℕ) (x : ℕ) (l : List ℕ) → Chain next x l → length l ≤ steps → chainIn steps next x ≡ l
@@ -50,7 +50,7 @@ pub chain-done : (steps : ℕ) (next : List ℕ) (x : ℕ) → x ≡ 0 → chain
 unfolding chainIn
 chain-done steps next x e = rw (eq-eqb x 0 e)
 
--- a write off the list changes nothing on it
+-- a link changed off the list changes nothing on it
 chain-set : (next : List ℕ) (x v y : ℕ) (l : List ℕ) → Misses x l → Chain next y l → Chain (set next x v) y l
 unfolding Chain
 chain-set next x v y [] n c = c
@@ -66,71 +66,57 @@ unfolding Chain
 chain-none next = refl
 
 module _ (order holder object : List ℕ) (listed o : ℕ) where
-  abbrev test : ℕ → ℕ → Bool
-  test = onList holder object o
-
-  abbrev past : ℕ → List ℕ
-  past i = drop i (work listed order)
+  abbrev rest : ℕ → ℕ → List ℕ
+  rest = pastOf order holder object listed o
 
   -- from the place i on, each holder's entries are chained
   pub record Chained (i : ℕ) (head next : List ℕ) : Type 0 where
     pub heads : length head ≡ rowsMost
     pub nexts : length next ≡ rowsMost
-    pub chains : (u : ℕ) → u < rowsMost → Chain next (at head u) (only (test u) (past i))
-
-  past-here : (i : ℕ) → i < listed → past i ≡ at order i ∷ past (suc i)
-  past-here i h = drop-cons (work listed order) i 0 (rw length-work h) ∙ ap (λ x. x ∷ past (suc i)) (work-at order listed i h)
-
-  -- an entry that u does not hold for o
-  past-miss : (i u : ℕ) → i < listed → test u (at order i) ≡ false → only (test u) (past i) ≡ only (test u) (past (suc i))
-  past-miss i u h e = ap (only (test u)) (past-here i h) ∙ cons-miss (test u) _ (past (suc i)) e
+    pub chains : (u : ℕ) → u < rowsMost → Chain next (at head u) (rest i u)
 
   pub chained-start : (head next : List ℕ) → length head ≡ rowsMost → length next ≡ rowsMost → ((u : ℕ) → u < rowsMost → at head u ≡ 0) → Chained listed head next
-  chained-start head next a b z =
-      let p : past listed ≡ [] = drop-of-length-le (work listed order) {i = listed} (omega (arith, length-work order listed)) in
-      record { heads = a; nexts = b; chains = λ u h. subst₂ (Chain next) (sym (z u h)) (sym (ap (only (test u)) p ∙ only-nil (test u))) (chain-none next) }
-
-  pub chained-skip : (i x : ℕ) (head next : List ℕ) → i < listed → x ≡ at order i → (at object x ≡ o → ⊥) → Chained (suc i) head next → Chained i head next
-  chained-skip i x head next h e n c = record {
-    heads = c .heads;
-    nexts = c .nexts;
-    chains = λ u l.
-        let f : test u x ≡ false = rw (ne-eqb (at object x) o n) (and-false (eqb (at holder x) u)) in
-        subst (Chain next (at head u)) (sym (past-miss i u h (subst (λ y. test u y ≡ false) e f))) (c .chains u l);
+  chained-start head next a b z = record {
+    heads = a;
+    nexts = b;
+    chains = λ u h. subst₂ (Chain next) (sym (z u h)) (sym (past-none order holder object listed o u)) (chain-none next);
   }
 
-  pub chained-end : (head next : List ℕ) → Chained 0 head next → Linked (listIn (work listed order) holder object o) head next
-  chained-end head next c = record { chains = c .chains }
+  pub chained-end : (i : ℕ) (head next : List ℕ) → i ≡ 0 → Chained i head next → Linked (listIn (work listed order) holder object o) head next
+  chained-end i head next e c = record { chains = (rw e at c) .chains }
 
-  module _ (k : Linkable listed order holder) where
-    past-off : (i : ℕ) → i < listed → Misses (at order i) (past (suc i))
-    past-off i h j b e =
-        let l : suc i + j < listed = omega (arith, rw (length-drop (suc i) (work listed order), length-work) at b) in
-        let z = k .distinct .once (suc i + j) i l h (sym (getD-drop (suc i) (work listed order) j 0 ∙ work-at order listed (suc i + j) l) ∙ e) in
-        omega arith
-
-    put : (i h : ℕ) (head next : List ℕ) → i < listed → at object (at order i) ≡ o → h ≡ at holder (at order i) → Chained (suc i) head next
-        → Chained i (set head h (at order i)) (set next (at order i) (at head h))
-    put i h head next b q w c = record {
-      heads = length-set head h _ ∙ c .heads;
-      nexts = length-set next _ _ ∙ c .nexts;
-      chains = λ u l.
-          let x = at order i in
-          let off : Misses x (only (test u) (past (suc i))) = only-each (test u) (λ z. z ≡ x → ⊥) (past (suc i)) (past-off i b) in
-          ⊎-elim
-          (λ e. let hit : test u x ≡ true = rw (eq-eqb (at holder x) u (sym w ∙ sym e)) (eq-eqb (at object x) o q) in
-          subst₂ (Chain (set next x (at head h)))
-          (sym (ap (λ v. at (set head h x) v) e ∙ getD-set-same head h x 0 (omega (arith, c .heads))))
-          (sym (ap (only (test u)) (past-here i b) ∙ cons-hit (test u) x (past (suc i)) hit))
-          (chain-cons next x (at head h) _ (k .distinct .some i b) (k .entries i b) (omega (arith, c .nexts, k .entries i b)) off
-          (subst (λ v. Chain next (at head v) (only (test u) (past (suc i)))) e (c .chains u l))))
-          (λ n. subst₂ (Chain (set next x (at head h)))
-          (sym (getD-set-other head h u x 0 n))
-          (sym (past-miss i u b (rw (← w, ne-eqb h u (λ z. n (sym z))))))
-          (chain-set next x (at head h) (at head u) _ off (c .chains u l)))
-          (same-or u h);
+  module _ (i x : ℕ) (z : 0 < i) (b : i ≤ listed) (e : x ≡ at order (i - 1)) (head next : List ℕ) (c : Chained i head next) where
+    pub chained-skip : (at object x ≡ o → ⊥) → Chained (i - 1) head next
+    chained-skip n = record {
+      heads = c .heads;
+      nexts = c .nexts;
+      chains = λ u l. subst (Chain next (at head u)) (sym (past-other order holder object listed o i x z b e n u)) (c .chains u l);
     }
 
-    pub chained-put : (i x h : ℕ) (head next : List ℕ) → i < listed → x ≡ at order i → at object x ≡ o → h ≡ at holder x → Chained (suc i) head next
-        → Chained i (set head h (at order i)) (set next x (at head h))
-    chained-put i x h head next b e q w c = rw e (put i h head next b (rw e at q) (rw e at w) c)
+    module _ (k : Linkable listed order holder) where
+      -- an entry does not stand twice
+      once : Misses x (past order listed i)
+      once j s q =
+          let l : i + j < listed = omega (arith, rw (length-drop i (work listed order), length-work) at s) in
+          let y = k .distinct .once (i + j) (i - 1) l (omega arith) (sym (getD-drop i (work listed order) j 0 ∙ work-at order listed (i + j) l) ∙ q ∙ e) in
+          omega arith
+
+      pub chained-put : (h : ℕ) → at object x ≡ o → h ≡ at holder x → Chained (i - 1) (set head h (at order (i - 1))) (set next x (at head h))
+      chained-put h q w = record {
+        heads = length-set head h _ ∙ c .heads;
+        nexts = length-set next _ _ ∙ c .nexts;
+        chains = λ u l.
+            let small : x < rowsMost = entry-row order holder listed k i x z b e in
+            let off : Misses x (rest i u) = only-each (onList holder object o u) (λ y. y ≡ x → ⊥) (past order listed i) once in
+            ⊎-elim
+            (λ s. subst₂ (Chain (set next x (at head h)))
+            (e ∙ sym (ap (λ v. at (set head h (at order (i - 1))) v) s ∙ getD-set-same head h (at order (i - 1)) 0 (omega (arith, c .heads))))
+            (sym (past-on order holder object listed o i x z b e h w q u s))
+            (chain-cons next x (at head h) _ (entry-some order holder listed k i x z b e) small (omega (arith, c .nexts)) off
+            (subst (λ v. Chain next (at head v) (rest i u)) s (c .chains u l))))
+            (λ n. subst₂ (Chain (set next x (at head h)))
+            (sym (getD-set-other head h u (at order (i - 1)) 0 n))
+            (sym (past-off order holder object listed o i x z b e h w u n))
+            (chain-set next x (at head h) (at head u) _ off (c .chains u l)))
+            (same-or u h);
+      }

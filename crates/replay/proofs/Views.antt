@@ -12,7 +12,7 @@ use Rattle.below.proofs.Climb.{lower-to, climb-root, climb-step, climb-ind}
 use Rattle.below.proofs.Tests.{and-fst}
 use Rattle.columns.specs.Column.{at}
 use Rattle.columns.specs.Work.{only, onList, listIn}
-use Rattle.columns.proofs.Work.{only-le, only-within}
+use Rattle.columns.proofs.Work.{Each, each-append, only-le, only-within}
 use Rattle.replay.specs.View.{viewIn}
 
 module _ (parent : List ℕ) (own : ℕ → List ℕ) where
@@ -32,6 +32,12 @@ view-same parent own other n w e t h =
     let v = lower-to (at parent) n (x + 1) w (omega arith) in
     view-step parent own x v z ∙ ap₂ _++_ i (e x l) ∙ sym (view-step parent other x v z))
     t h
+
+-- what holds of each entry of every list holds of each of a view
+pub view-each : (parent : List ℕ) (own : ℕ → List ℕ) (P : ℕ → Type 0) (n : ℕ) → Lower n (at parent) → ((u : ℕ) → Each P (own u)) → (t : ℕ) → t < n → Each P (viewIn parent own t)
+view-each parent own P n w each =
+    climb-ind (at parent) n w (λ t. Each P (viewIn parent own t)) (rw (view-root parent own) (each 0))
+    (λ t z l up. rw (view-step parent own t (lower-to (at parent) n (t + 1) w (omega arith)) z) (each-append P (viewIn parent own (at parent t)) (own t) up (each t)))
 
 module _ (all holder object : List ℕ) (o : ℕ) where
   abbrev own : ℕ → List ℕ

@@ -1,3 +1,4 @@
 pub mod Access
 pub mod View
 pub mod Chain
+pub mod Write

@@ -2,3 +2,4 @@
 pub mod access;
 mod chain;
 pub mod view;
+mod write;

@@ -12,6 +12,7 @@ ghost use Rattle.replay.specs.View.{viewIn, afterAll, Distinct};
 ghost use Rattle.replay.specs.Chain.{chainAt, Linked, Left};
 use crate::chain::chained;
 use crate::chain::walked;
+use crate::write::last_written;
 use columns::order::PLACES;
 use columns::tree::ROWS;
 use columns::tree::at16;
@@ -50,7 +51,8 @@ fn climbed<'a>(
     }
 }
 
-// The state of object o after the view of t, from its opening: one pass over the order, and then one over the rows and entries of the view.
+// The state of object o after the view of t, from its opening: one pass over the order, and then one over the rows and entries of the view. For a register
+// the first pass notes last writes, and the second goes up the rows to the first that has one: the state is as if the register had opened with what that put.
 pub fn replayed<'a>(
     parent: &'a [u16; ROWS],
     order: &'a [u16; PLACES],
@@ -68,17 +70,36 @@ pub fn replayed<'a>(
     requires { ⌜ Sound rows listed (now order) (now holder) × Distinct listed (now order) × (t < rows) × Lower rows (at (now parent)) × (opens (openedOf kind opening) ≡ true) ⌝ }
     ensures { λ r. ⌜ r ≡ afterAll (askedOf kind (now (operation .entry)) (now (argument .entry))) (viewIn (now (parent .entry)) (listIn (work listed (now (order .entry))) (now (holder .entry)) (now (object .entry)) o) t) (startOf (openedOf kind opening)) ⌝ }
 {
-    let chains = chained(order, listed, holder, object, o);
-    let head = chains.head;
-    let next = chains.next;
-    climbed(
-        parent,
-        &head,
-        &next,
-        operation,
-        argument,
-        kind,
-        serial::opened_state(kind, opening),
-        t,
-    )
+    match kind {
+        Kind::Register => serial::opened_state(
+            kind,
+            last_written(
+                parent,
+                order,
+                listed,
+                holder,
+                object,
+                operation,
+                argument,
+                opening,
+                o,
+                t,
+            ),
+        ),
+        _ => {
+            let chains = chained(order, listed, holder, object, o);
+            let head = chains.head;
+            let next = chains.next;
+            climbed(
+                parent,
+                &head,
+                &next,
+                operation,
+                argument,
+                kind,
+                serial::opened_state(kind, opening),
+                t,
+            )
+        }
+    }
 }
