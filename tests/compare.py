@@ -150,10 +150,11 @@ def some_calls(c, chance, many):
 
 def calls_on(name, c, rule):
     """Few on one out of form, since all are refused; some of each letter on one in form, and more where calls have made it.
-    Where calls have made it, and where held numbers stand around those that are asked: who asks, asks."""
+    Where calls have made it, where held numbers stand around those that are asked, and where the steps of a view stand in every order:
+    who asks, asks."""
     group = name.split(" | ")[1]
-    asks = [("G", t) for t in stores.asking(c)] if group in ("start", "number") else []
-    many = {"start": 40, "number": 0, "sweep": 1}.get(group, 2 if rule else 8)
+    asks = [("G", t) for t in stores.asking(c)] if group in ("start", "number", "view") else []
+    many = {"start": 40, "number": 0, "view": 0, "sweep": 1}.get(group, 2 if rule else 8)
     return asks + list(some_calls(c, random.Random(name), many))
 
 

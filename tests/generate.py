@@ -435,6 +435,26 @@ def rescans(chance):
     small_jobs(chance, "R", (0, 2), lambda: chance.choice(((4, 0), (5, chance.randint(0, 2)))))
 
 
+def rewrites(chance):
+    """A register that jobs one within the other write and read again and again, the innermost mostly; it commits or is dropped now and then."""
+    m = Maker(chance, [("R", chance.randint(0, 9)), *some_objects(chance, 1)], usual_size(chance))
+    chain = [0]
+    while True:
+        way = chance.random()
+        if way < 0.15:
+            chain.append(m.plain(chain[-1]))
+        elif way < 0.25 and len(chain) > 1:
+            (m.commit if chance.random() < 0.6 else m.abort)(chain.pop())
+        elif way < 0.3:
+            refusal(m)
+        else:
+            parent = chain[-1] if chance.random() < 0.8 else chance.choice(chain)
+            work = chance.choice(((4, 0), (5, chance.randint(0, 9)))) if chance.random() < 0.9 else ()
+            t = m.access(parent, 0 if work else m.object(), *work)
+            m.respond(t)
+            (m.finish if chance.random() < 0.9 else m.abort)(t)
+
+
 def bins(chance):
     """Bins: put, take and look, of few parts."""
     small_jobs(chance, "S", (0, LARGEST), lambda: (chance.choice((8, 9, 10)), chance.choice((0, 1, 31))))
@@ -612,6 +632,7 @@ SHAPES = {
     "put and drawn": (put_and_drawn, 5),
     "recounts": (recounts, 7),
     "rescans": (rescans, 7),
+    "rewrites": (rewrites, 5),
     "bins": (bins, 7),
     "in and out": (in_and_out, 5),
     "deep": (deep, 4),

@@ -10,11 +10,15 @@ they are meant to break (None: still in form); it must be what
 columns.broken_rule finds.  The rest are marked COMPUTED.  Some stay in form
 and stand on both sides of each condition of the conflict table, which calls
 cannot always bring about: a balance below a withdrawal that is held, a part
-that is held as found in and alone beside one that asks and finds it out.
+that is held as found in and alone beside one that asks and finds it out.  And
+some have the steps on a register in every order, each held in turn by each
+transaction above it: by the view one of them is the last write, whatever was
+answered last.
 """
 
 import collections
 import hashlib
+import itertools
 import random
 
 import columns
@@ -175,6 +179,16 @@ def parts_held_and_asking():
     return store
 
 
+def written_and_asking():
+    """Three writes of a register, and one of another, held by a job within a job; that job, the one above it and the root ask."""
+    store = opened("R 7", "R 8")
+    play(store, "N 0 / N 1")
+    for t, work in enumerate(("0 5 5", "0 5 6", "0 5 9", "1 5 4"), start=3):
+        play(store, f"U 2 {work} / G {t} / C {t}")
+    play(store, "U 2 0 4 0 / U 1 0 4 0 / U 0 0 4 0 / U 1 0 5 6 / U 0 0 5 5 / U 2 1 4 0")
+    return store
+
+
 def many_objects():
     """64 objects with work on each, under a job for every eight."""
     works = {"A": "2 3", "R": "5 4", "K": "6 -3", "S": "8 30"}
@@ -256,6 +270,7 @@ STARTS = {
     "bin limits": bins_at_the_limits,
     "asking": held_and_asking,
     "parts": parts_held_and_asking,
+    "written": written_and_asking,
     "objects": many_objects,
     "deep": deep_chain,
     "listed": full_of_listed,
@@ -585,6 +600,21 @@ def in_new_order(order):
     return [("order", at, t) for at, t in enumerate(order)] + [("place", t, at) for at, t in enumerate(order, start=1)]
 
 
+def around_view(c, chance):
+    """Three writes of a register within two jobs, each held by one of these or by the root, in every order, what is listed besides after them; or
+    two and a read, its result not what is there: in form, and judged by what the view has last."""
+    steps = [t for t in on_lists(c) if (c.object[t], c.operation[t]) == (0, reading.WRITE) and len(path(c, t)) == 4]
+    others = [t for t in on_lists(c) if t not in steps]
+    if len(steps) != 3:
+        return
+    for holders in itertools.product(path(c, steps[0])[1:], repeat=3):
+        held = [("holder", t, holder) for t, holder in zip(steps, holders)]
+        for order in itertools.permutations(steps):
+            for read in (None, *steps):
+                seen = [("operation", read, reading.READ), ("argument", read, 0), ("outcome", read, columns.VALUE), ("value", read, 1)] if read else []
+                yield f"{order}, {steps} held by {holders}, {read} a read", None, held + in_new_order([*order, *others]) + seen
+
+
 def around_order(c, chance):
     for many in {c.listed + 1, max(c.listed - 1, 0), 0, 1_024, 1_025, 2**63, chance.choice(LARGE_COUNTS) - 1, 2**16 + c.listed} - {c.listed}:
         yield f"listed {many}", ORDER, [("listed", None, many)]
@@ -668,9 +698,10 @@ def every_unused(c):
         yield f"{field} of unused {index}", UNUSED, [(field, index, 1)]
 
 
-# Of equal stores only the first is kept, and those of "number" are asked the most.
+# Of equal stores only the first is kept, and those of "number" and "view" are asked the most.
 AROUND = {
     "number": around_number,
+    "view": around_view,
     "objects": around_objects,
     "transactions": around_transactions,
     "kind": around_kind,

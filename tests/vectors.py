@@ -93,6 +93,18 @@ def in_and_out():
     return file_of(["S 0"], calls + ["U 0 0 %d 31" % LOOK, "G 1024"])
 
 
+def rewritten():
+    """A register that one job writes again and again, by 1,017 steps, each another value; its last is read. A job within writes over it twice, and a
+    read there waits for the second write, and reads the first when the second is dropped; when that job is dropped, the last of the 1,017 is read
+    again."""
+    calls = ["N 0"]
+    for t in range(2, 1019):
+        calls += ["U 1 0 %d %d" % (WRITE, t * 7919 % 1019), "G %d" % t, "C %d" % t]
+    calls += ["U 1 0 %d 0" % READ, "G 1019", "C 1019", "N 1", "U 1020 0 %d 2001" % WRITE, "G 1021", "C 1021", "U 1020 0 %d 2002" % WRITE, "G 1022"]
+    calls += ["U 1020 0 %d 0" % READ, "G 1023", "B 1022", "G 1023", "B 1020", "U 1 0 %d 0" % READ, "G 1024", "C 1024", "C 1"]
+    return file_of(["R 7"], calls)
+
+
 def chain(first, last, top):
     """Plain transactions `first` to `last`, each under the one before, the first under `top`."""
     return ["N %d" % top] + ["N %d" % t for t in range(first, last)]
@@ -133,6 +145,17 @@ def deep_bin():
         t += 1
         calls += ["U %d 0 %d %d" % (looking, LOOK, part), "G %d" % t]
     return file_of(["S 0"], calls)
+
+
+def deep_register():
+    """A chain of 1,010. One register is written at the top, one by the outermost job, one by nobody, and the innermost reads all three; it writes
+    over the first, and reads that; then a read by the job above it waits, until the innermost is dropped. At the end the job within the outermost one
+    reads what that wrote, and at the top a read of it waits."""
+    calls = ["U 0 0 %d 5" % WRITE, "G 1", "C 1"] + chain(2, 1011, 0) + ["U 2 1 %d 6" % WRITE, "G 1012", "C 1012"]
+    steps = [(1011, 0, READ, 0), (1011, 1, READ, 0), (1011, 2, READ, 0), (1011, 0, WRITE, 4), (1011, 0, READ, 0), (1010, 0, READ, 0)]
+    for t, step in enumerate(steps, start=1013):
+        calls += ["U %d %d %d %d" % step, "G %d" % t, "C %d" % t]
+    return file_of(["R 7", "R 8", "R 9"], calls + ["B 1011", "G 1018", "U 3 1 %d 0" % READ, "G 1019", "U 0 1 %d 0" % READ, "G 1020"])
 
 
 def deep_abort():
@@ -250,10 +273,12 @@ FILES = {
     "edge-bound-below": to_the_bound(-1),
     "edge-bin-every-two-parts": every_two_parts(),
     "edge-bin-in-and-out": in_and_out(),
+    "edge-register-rewritten": rewritten(),
     "deep-commits": deep_commits(),
     "deep-full": deep_full(),
     "deep-work": deep_work(),
     "deep-bin": deep_bin(),
+    "deep-register": deep_register(),
     "deep-abort": deep_abort(),
     "many-objects": many_objects(),
     "mixed-two-objects": mixed(1, ["A 10", "R 7"], 12),
