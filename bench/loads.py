@@ -5,7 +5,7 @@ DATED_CARD, NEW_CARD = "R 20261115", "R 0"
 FULL_BIN, EMPTY_BIN = "S 4294967295", "S 0"
 BALANCE, DEPOSIT_5, DEPOSIT_7, WITHDRAW_3, READ = "1 0", "2 5", "2 7", "3 3", "4 0"
 UP_3, DOWN_3, COUNT = "6 3", "6 -3", "7 0"
-SAME_DATE, OTHER_DATE = "5 20261115", "5 20271115"
+SAME_DATE, OTHER_DATE, WRITE = "5 20261115", "5 20271115", "5 {}".format
 PUT, TAKE, LOOK = "8 {}".format, "9 {}".format, "10 {}".format
 
 
@@ -72,6 +72,15 @@ def binned(calls, size):
     return [FULL_BIN] * 8 + [EMPTY_BIN] * 8
 
 
+def rewritten(calls, size):
+    """No two writes put the same value; every fifth step is a read."""
+    parent = calls.create("N", 0)
+    for turn in range(1, size):
+        calls.step(parent, 0, WRITE(turn * 1000) if turn % 5 else READ)
+    calls.each("C", [parent])
+    return [REGISTER]
+
+
 def chained(calls, depth, steps):
     chain = [calls.create("N", above) for above in range(depth)]
     for _ in range(steps):
@@ -87,6 +96,7 @@ LOADS = {
     "recount": ("all open at once, adjusting counters, with waits", recounted),
     "rescan": ("all open at once, putting the same dates, with waits", rescanned),
     "bins": ("all open at once, at parts of bins, with waits", binned),
+    "rewrite": ("one job, writing one register again and again", rewritten),
     "deep": ("one chain, 5 deposits at its end", lambda calls, size: chained(calls, size - 5, 5)),
     "late": ("a chain of half, deposits of half at its end", lambda calls, size: chained(calls, size // 2, size // 2)),
 }

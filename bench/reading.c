@@ -1,4 +1,4 @@
-/* Document 01 and requests Q-1, Q-2 and Q-3 read in C: the product's columns and algorithms (docs/ARCHITECTURE.md), a store lent by pointer. FORM says how each call tests the form
+/* Document 01 and requests Q-1 to Q-4 read in C: the product's columns and algorithms (docs/ARCHITECTURE.md), a store lent by pointer. FORM says how each call tests the form
  * of the store first, as the product's calls do. 0: not at all. 1, plain: row by row over all rows. 2, quick: row by row over those in use, and the
  * rest of each column compared with zero as memory. */
 #include <stdbool.h>
@@ -80,12 +80,13 @@ static bool allows(uint8_t operation, uint8_t outcome, int64_t value) {
     return outcome <= VALUE && (operations[operation].outcomes >> outcome & 1) && least <= value && value <= most;
 }
 static bool is_in(int64_t state, int64_t part) { return state >> part & 1; }
+/* Not asked of a register: see last_written. */
 static int64_t after(int64_t state, uint8_t operation, int64_t argument) {
     if (operation == DEPOSIT || operation == ADJUST) return state + argument;
     if (operation == WITHDRAW && argument <= state) return state - argument;
     if (operation == PUT) return state | (int64_t)1 << argument;
     if (operation == TAKE) return state & ~((int64_t)1 << argument);
-    return operation == WRITE ? argument : state;
+    return state;
 }
 static uint8_t outcome_of(int64_t state, uint8_t operation, int64_t argument) {
     switch (operation) {
@@ -223,6 +224,25 @@ static int64_t replayed(const Store *s, const Chains *chains, int64_t opening, u
     for (uint32_t x = chains->head[t]; x != 0; x = chains->next[x]) state = after(state, s->operation[x], s->argument[x]);
     return state;
 }
+/* A register needs no replay: the last write of the nearest holder that has one, from t upward, or the opening. The order is gone through from its end, so that the
+ * first write met of a holder is its last; 0 is none. */
+static int64_t last_written(const Store *s, uint8_t object, uint32_t t) {
+    uint16_t last[ROWS];
+    memset(last, 0, (s->count + 1) * sizeof *last);
+    for (uint32_t i = s->listed; 0 < i; i--) {
+        uint16_t x = s->order[i - 1];
+        if (s->object[x] == object && s->operation[x] == WRITE && last[s->holder[x]] == 0) last[s->holder[x]] = x;
+    }
+    while (t != 0 && last[t] == 0) t = s->parent[t];
+    return last[t] == 0 ? s->opening[object] : s->argument[last[t]];
+}
+static int64_t state_for(const Store *s, uint32_t t) {
+    uint8_t object = s->object[t];
+    Chains chains;
+    if (s->kind[object] == 'R') return last_written(s, object, t);
+    link_work(s, object, &chains);
+    return replayed(s, &chains, s->opening[object], t);
+}
 /* The lowest access that t must wait for, or 0. */
 static uint32_t first_wait(const Store *s, uint32_t t, Answered asked) {
     bool above[ROWS];
@@ -248,9 +268,7 @@ static Answer respond(Store *s, uint32_t t) {
     if (s->operation[t] == PLAIN) return refusal(9);
     if ((code = inactive_code(s, t)) != 0) return refusal(code);
     if (s->outcome[t] != UNANSWERED) return refusal(10);
-    Chains chains;
-    link_work(s, s->object[t], &chains);
-    int64_t state = replayed(s, &chains, s->opening[s->object[t]], t);
+    int64_t state = state_for(s, t);
     uint8_t outcome = outcome_of(state, s->operation[t], s->argument[t]);
     int64_t value = value_of(state, s->operation[t], s->argument[t], outcome);
     uint32_t wait = first_wait(s, t, answered(s->operation[t], s->argument[t], outcome, value));
