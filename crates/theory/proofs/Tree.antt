@@ -75,7 +75,7 @@ module _ {S : Serial} where
         (two h ok (committed p) (created c p k.0) m k.1)
 
     -- so what is open, with nothing aborted above it, is open all the way up
-    pub open_above : {x w : ℕ} → ¬ Orphan h x → ¬ Finished h x → AtOrAbove h w x → ¬ Finished h w
+    pub open_above : {w x : ℕ} → ¬ Orphan h x → ¬ Finished h x → AtOrAbove h w x → ¬ Finished h w
     open_above n f (self q) g = f (subst (λ c. Finished h c) q g)
     open_above n f (up {p = p} m a) g =
         open_above (λ d. n (d.0, up m d.1, d.2)) (⊎_elim (λ c. f (children_finished c m)) (λ b. n (p, up m (self refl), b))) a g
