@@ -11,7 +11,7 @@ use crate::wide::wide16;
 
 pub const PLACES: usize = 1024;
 
-#[derive(Drop)]
+#[derive(Clone, Copy)]
 pub struct Work {
     pub listed: usize,
     pub order: [u16; PLACES],

@@ -8,12 +8,12 @@ use crate::table::Rule;
 use crate::{Opening, State};
 
 // Its binary digits say which parts are in: that of 2 ^ i, whether part i is.
-#[derive(Drop)]
+#[derive(Clone, Copy)]
 pub struct Bin {
     pub parts: u32,
 }
 
-#[derive(Drop)]
+#[derive(Clone, Copy)]
 pub enum BinOperation {
     Put(u32),
     Take(u32),

@@ -7,12 +7,12 @@ use crate::range::{SignedRanged, within_signed};
 use crate::table::Rule;
 use crate::{Opening, State};
 
-#[derive(Drop)]
+#[derive(Clone, Copy)]
 pub struct Counter {
     pub count: i32,
 }
 
-#[derive(Drop)]
+#[derive(Clone, Copy)]
 pub enum CounterOperation {
     Adjust(i32),
     Count,

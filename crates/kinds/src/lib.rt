@@ -15,7 +15,7 @@ pub use outcome::{Numbers, Outcome, Recalled, Shape, numbers_of};
 pub use register::{Register, RegisterOperation};
 pub use table::{Class, Rule};
 
-#[derive(Drop)]
+#[derive(Clone, Copy)]
 pub enum Kind {
     Account,
     Register,
@@ -24,7 +24,7 @@ pub enum Kind {
     Unknown,
 }
 
-#[derive(Drop)]
+#[derive(Clone, Copy)]
 pub enum Operation {
     Account(AccountOperation),
     Register(RegisterOperation),
@@ -32,7 +32,7 @@ pub enum Operation {
     Bin(BinOperation),
 }
 
-#[derive(Drop)]
+#[derive(Clone, Copy)]
 pub enum State {
     Account(Account),
     Register(Register),
@@ -41,27 +41,27 @@ pub enum State {
 }
 
 // An operation with its outcome.
-#[derive(Drop)]
+#[derive(Clone, Copy)]
 pub struct Answered {
     pub operation: Operation,
     pub outcome: Outcome,
 }
 
 // The state that an object opens with.
-#[derive(Drop)]
+#[derive(Clone, Copy)]
 pub enum Opening {
     At(State),
     Refused,
 }
 
 // An operation that fits its kind, or code 7.
-#[derive(Drop)]
+#[derive(Clone, Copy)]
 pub enum Decoded {
     Fit(Operation),
     Unfit,
 }
 
-#[derive(Drop)]
+#[derive(Clone, Copy)]
 pub struct Stepped {
     pub state: State,
     pub outcome: Outcome,

@@ -4,7 +4,7 @@ ghost use Rattle.kinds.specs.Outcome.{numbers_of, with_value, without_value, rec
 
 use crate::range::{Ranged, within};
 
-#[derive(Drop)]
+#[derive(Clone, Copy)]
 pub enum Outcome {
     Ok,
     Fail,
@@ -12,7 +12,7 @@ pub enum Outcome {
 }
 
 // Document 01's a and b of an outcome.
-#[derive(Drop)]
+#[derive(Clone, Copy)]
 pub struct Numbers {
     pub a: u32,
     pub b: i64,
@@ -31,7 +31,7 @@ impl Numbers {
 }
 
 // The results that an operation allows.
-#[derive(Drop)]
+#[derive(Clone, Copy)]
 pub enum Shape {
     Done,
     DoneOrFailed,
@@ -40,7 +40,7 @@ pub enum Shape {
 }
 
 // The outcome that a and b stand for, where the operation allows it.
-#[derive(Drop)]
+#[derive(Clone, Copy)]
 pub enum Recalled {
     Given(Outcome),
     Unshaped,

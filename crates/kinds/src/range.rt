@@ -3,14 +3,14 @@ ghost use Rattle.std.specs.Prelude.{◌≡◌};
 ghost use Rattle.kinds.specs.Range.{in_range, in_signed};
 
 // A number in a range from zero up, or out of it.
-#[derive(Drop)]
+#[derive(Clone, Copy)]
 pub enum Ranged {
     In(u32),
     Out,
 }
 
 // A number in a range that may reach below zero, or out of it.
-#[derive(Drop)]
+#[derive(Clone, Copy)]
 pub enum SignedRanged {
     In(i32),
     Out,

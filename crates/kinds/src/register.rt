@@ -7,12 +7,12 @@ use crate::range::{Ranged, within};
 use crate::table::Rule;
 use crate::{Opening, State};
 
-#[derive(Drop)]
+#[derive(Clone, Copy)]
 pub struct Register {
     pub value: u32,
 }
 
-#[derive(Drop)]
+#[derive(Clone, Copy)]
 pub enum RegisterOperation {
     Read,
     Write(u32),

@@ -3,14 +3,14 @@ ghost use Rattle.std.specs.Prelude.{◌≡◌};
 ghost use Rattle.kinds.specs.Table.{judge};
 
 // The row, and column, of an answer in the table of its kind, and the answer's key, which a rule may look at.
-#[derive(Drop)]
+#[derive(Clone, Copy)]
 pub enum Class {
     Row(usize, i64),
     None,
 }
 
 // An entry of a kind's table: when two answers of these classes conflict.
-#[derive(Drop)]
+#[derive(Clone, Copy)]
 pub enum Rule {
     Pass,
     Conflict,

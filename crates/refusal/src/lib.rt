@@ -13,7 +13,7 @@ pub use create::create_code;
 pub use finish::{finish_code, has_open_child, is_unanswered};
 pub use open::openable;
 
-#[derive(Drop)]
+#[derive(Clone, Copy)]
 pub struct Answer {
     pub code: u32,
     pub a: u32,
@@ -21,7 +21,7 @@ pub struct Answer {
 }
 
 // What an access asks of an object.
-#[derive(Drop)]
+#[derive(Clone, Copy)]
 pub struct Request {
     pub object: u32,
     pub operation: u32,
@@ -29,7 +29,7 @@ pub struct Request {
 }
 
 // What is created.
-#[derive(Drop)]
+#[derive(Clone, Copy)]
 pub enum Child {
     Plain,
     Access(Request),

@@ -8,7 +8,7 @@ use columns::wide::word8;
 use kinds::{Answered, Decoded, Kind, Recalled};
 
 // An answer on record.
-#[derive(Drop)]
+#[derive(Clone, Copy)]
 pub enum Recorded {
     As(Answered),
     Nothing,

@@ -13,7 +13,7 @@ use columns::tree::{ROWS, at16};
 use kinds::{Decoded, Kind, State};
 
 // The first entry of each holder, and the next of each entry; 0 is none.
-#[derive(Drop)]
+#[derive(Clone, Copy)]
 pub(crate) struct Chains {
     pub head: [u16; ROWS],
     pub next: [u16; ROWS],

@@ -26,7 +26,7 @@ pub const OUTPUT: usize = 147492;
 
 const OBJECTS: usize = 64;
 
-#[derive(Drop)]
+#[derive(Clone, Copy)]
 struct Objects {
     count: usize,
     kinds: [u8; OBJECTS],

@@ -11,7 +11,7 @@ use form::OBJECTS;
 use refusal::Answer;
 
 // Flat columns, indexed by the transaction's own number; row 0 is the root's and stays zero. `kind` and `opening` are indexed by the object's.
-#[derive(Drop)]
+#[derive(Clone, Copy)]
 pub struct Store {
     pub objects: usize,
     pub kind: [u8; OBJECTS],
@@ -30,7 +30,7 @@ pub struct Store {
     pub place: [u16; ROWS],
 }
 
-#[derive(Drop)]
+#[derive(Clone, Copy)]
 pub struct Reply {
     pub store: Store,
     pub answer: Answer,

@@ -11,7 +11,7 @@ pub const LINE_END: u8 = 10;
 const MOST: u64 = 4294967295;
 
 // A number that was read, with the place after its end byte.
-#[derive(Drop)]
+#[derive(Clone, Copy)]
 pub enum Number {
     Value(u32, usize),
     Wrong,

@@ -5,7 +5,7 @@ ghost use Rattle.text.specs.Signed.{negative_at, signed_at};
 use crate::number::{Number, number_at};
 
 // A number that was read, with the place after its end byte.
-#[derive(Drop)]
+#[derive(Clone, Copy)]
 pub enum Signed {
     Value(i64, usize),
     Wrong,
