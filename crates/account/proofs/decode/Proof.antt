@@ -11,68 +11,68 @@ use Rattle.account.proofs.decode.Tie as tie
 within-requires : tie.Need-within-requires
 within-requires c κs = search rules
 
-enum_told : tie.Need-enum-told
-enum_told c = search rules
+enum_told-1 : tie.Need-enum_told-1
+enum_told-1 c = search rules
 
-enum-told-2 : tie.Need-enum-told-2
-enum-told-2 c = search rules
+enum_told-in-Out : tie.Need-enum_told-in-Out
+enum_told-in-Out c = search rules
 
-within-requires-2 : tie.Need-within-requires-2
-within-requires-2 c κs = search rules
+within-requires-in-2 : tie.Need-within-requires-in-2
+within-requires-in-2 c κs = search rules
 
-enum-known-n : tie.Need-enum-known-n
-enum-known-n c = search rules
+enum_known-n : tie.Need-enum_known-n
+enum_known-n c = search rules
 
-enum-told-3 : tie.Need-enum-told-3
-enum-told-3 c = search rules
+enum_told-in-Out-within : tie.Need-enum_told-in-Out-within
+enum_told-in-Out-within c = search rules
 
-within-requires-3 : tie.Need-within-requires-3
-within-requires-3 c κs = search rules
+within-requires-in-3 : tie.Need-within-requires-in-3
+within-requires-in-3 c κs = search rules
 
-enum-known-n-2 : tie.Need-enum-known-n-2
-enum-known-n-2 c = search rules
+enum_known-n-in-In-within-3 : tie.Need-enum_known-n-in-In-within-3
+enum_known-n-in-In-within-3 c = search rules
 
-enum-told-4 : tie.Need-enum-told-4
-enum-told-4 c = search rules
+enum_told-in-Out-within-2 : tie.Need-enum_told-in-Out-within-2
+enum_told-in-Out-within-2 c = search rules
 
-returns : tie.Need-returns
-returns c = rw c.before.before.before.match.keys1 (told_in (λ n. Fit (O.Account Balance)) Unfit 0 0 c.before.before.within.ensures c.before.before.before.before.ranges.argument c.enum_told.given.1)
+returns-in-In : tie.Need-returns-in-In
+returns-in-In c = rw c.before.before.before.in_default.keys1 (told_in (λ n. Fit (O.Account Balance)) Unfit 0 0 c.before.before.within.ensures c.before.before.before.before.ranges.argument c.enum_told-1.given.1)
 
-returns-2 : tie.Need-returns-2
-returns-2 c = rw c.before.before.before.match.keys1 (told_out (λ n. Fit (O.Account Balance)) Unfit 0 0 c.before.before.within.ensures c.before.before.before.before.ranges.argument c.enum-told2.given.1)
+returns-in-Out : tie.Need-returns-in-Out
+returns-in-Out c = rw c.before.before.before.in_default.keys1 (told_out (λ n. Fit (O.Account Balance)) Unfit 0 0 c.before.before.within.ensures c.before.before.before.before.ranges.argument c.enum_told-in-Out-1.given.1)
 
-returns-3 : tie.Need-returns-3
-returns-3 c = rw c.before.before.before.before.match.keys2 (told_in (λ n. Fit (O.Account (Deposit n))) Unfit amount_least amount_most c.before.before.before.within2.ensures c.before.before.before.before.before.ranges.argument c.before.n.given.1)
+returns-in-In-within : tie.Need-returns-in-In-within
+returns-in-In-within c = rw c.before.before.before.before.in_default.keys2 (told_in (λ n. Fit (O.Account (Deposit n))) Unfit amount_least amount_most c.before.before.before.within-in-2.ensures c.before.before.before.before.before.ranges.argument c.before.n-1.given.1)
 
-returns-4 : tie.Need-returns-4
-returns-4 c = rw c.before.before.before.match.keys2 (told_out (λ n. Fit (O.Account (Deposit n))) Unfit amount_least amount_most c.before.before.within2.ensures c.before.before.before.before.ranges.argument c.enum-told3.given.1)
+returns-in-Out-within : tie.Need-returns-in-Out-within
+returns-in-Out-within c = rw c.before.before.before.in_default.keys2 (told_out (λ n. Fit (O.Account (Deposit n))) Unfit amount_least amount_most c.before.before.within-in-2.ensures c.before.before.before.before.ranges.argument c.enum_told-in-Out-within-1.given.1)
 
-returns-5 : tie.Need-returns-5
-returns-5 c = rw c.before.before.before.before.match.keys3 (told_in (λ n. Fit (O.Account (Withdraw n))) Unfit amount_least amount_most c.before.before.before.within3.ensures c.before.before.before.before.before.ranges.argument c.before.n2.given.1)
+returns-in-In-within-2 : tie.Need-returns-in-In-within-2
+returns-in-In-within-2 c = rw c.before.before.before.before.in_default.keys3 (told_in (λ n. Fit (O.Account (Withdraw n))) Unfit amount_least amount_most c.before.before.before.within-in-3.ensures c.before.before.before.before.before.ranges.argument c.before.n-in-In-within-3-1.given.1)
 
-returns-6 : tie.Need-returns-6
-returns-6 c = rw c.before.before.before.match.keys3 (told_out (λ n. Fit (O.Account (Withdraw n))) Unfit amount_least amount_most c.before.before.within3.ensures c.before.before.before.before.ranges.argument c.enum-told4.given.1)
+returns-in-Out-within-2 : tie.Need-returns-in-Out-within-2
+returns-in-Out-within-2 c = rw c.before.before.before.in_default.keys3 (told_out (λ n. Fit (O.Account (Withdraw n))) Unfit amount_least amount_most c.before.before.within-in-3.ensures c.before.before.before.before.ranges.argument c.enum_told-in-Out-within-2-1.given.1)
 
-returns-7 : tie.Need-returns-7
-returns-7 c = rw (ne_eqb _ _ c.match.rest.0.0.1, ne_eqb _ _ c.match.rest.0.1, ne_eqb _ _ c.match.rest.1)
+returns-in_default : tie.Need-returns-in_default
+returns-in_default c = rw (ne_eqb _ _ c.in_default.rest.0.0.1, ne_eqb _ _ c.in_default.rest.0.1, ne_eqb _ _ c.in_default.rest.1)
 
 pub decode_spec : {M : Type 1} → statement M
 decode_spec =
     tie.close
     (tie.spec
     within-requires
-    enum_told
-    enum-told-2
-    within-requires-2
-    enum-known-n
-    enum-told-3
-    within-requires-3
-    enum-known-n-2
-    enum-told-4
-    returns
-    returns-2
-    returns-3
-    returns-4
-    returns-5
-    returns-6
-    returns-7)
+    enum_told-1
+    enum_told-in-Out
+    within-requires-in-2
+    enum_known-n
+    enum_told-in-Out-within
+    within-requires-in-3
+    enum_known-n-in-In-within-3
+    enum_told-in-Out-within-2
+    returns-in-In
+    returns-in-Out
+    returns-in-In-within
+    returns-in-Out-within
+    returns-in-In-within-2
+    returns-in-Out-within-2
+    returns-in_default)

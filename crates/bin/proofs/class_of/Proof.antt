@@ -9,115 +9,115 @@ use borrow.Author.Rules.{rules}
 use Rattle.bin.proofs.class_of.Statement.{statement}
 use Rattle.bin.proofs.class_of.Tie as tie
 
-enum-known-operation : tie.Need-enum-known-operation
-enum-known-operation c = search rules
+enum_known-operation : tie.Need-enum_known-operation
+enum_known-operation c = search rules
 
-enum_told : tie.Need-enum-told
-enum_told c = search rules
+enum_told-1 : tie.Need-enum_told-1
+enum_told-1 c = search rules
 
-cast-t9 : tie.Need-overflow-cast-t9
-cast-t9 c = search rules
+overflow_cast-result : tie.Need-overflow_cast-result
+overflow_cast-result c = search rules
 
-enum-told-2 : tie.Need-enum-told-2
-enum-told-2 c = search rules
+enum_told-in-Fail : tie.Need-enum_told-in-Fail
+enum_told-in-Fail c = search rules
 
-cast-t10 : tie.Need-overflow-cast-t10
-cast-t10 c = search rules
+overflow_cast-result-in-Fail : tie.Need-overflow_cast-result-in-Fail
+overflow_cast-result-in-Fail c = search rules
 
-enum-told-3 : tie.Need-enum-told-3
-enum-told-3 c = search rules
+enum_told-in-Value : tie.Need-enum_told-in-Value
+enum_told-in-Value c = search rules
 
-enum-known-operation-2 : tie.Need-enum-known-operation-2
-enum-known-operation-2 c = search rules
+enum_known-operation-in-Take-1 : tie.Need-enum_known-operation-in-Take-1
+enum_known-operation-in-Take-1 c = search rules
 
-enum-told-4 : tie.Need-enum-told-4
-enum-told-4 c = search rules
+enum_told-in-Ok-outcome : tie.Need-enum_told-in-Ok-outcome
+enum_told-in-Ok-outcome c = search rules
 
-cast-t12 : tie.Need-overflow-cast-t12
-cast-t12 c = search rules
+overflow_cast-result-in-Ok-outcome : tie.Need-overflow_cast-result-in-Ok-outcome
+overflow_cast-result-in-Ok-outcome c = search rules
 
-enum-told-5 : tie.Need-enum-told-5
-enum-told-5 c = search rules
+enum_told-in-Fail-outcome : tie.Need-enum_told-in-Fail-outcome
+enum_told-in-Fail-outcome c = search rules
 
-cast-t13 : tie.Need-overflow-cast-t13
-cast-t13 c = search rules
+overflow_cast-result-in-Fail-outcome : tie.Need-overflow_cast-result-in-Fail-outcome
+overflow_cast-result-in-Fail-outcome c = search rules
 
-enum-told-6 : tie.Need-enum-told-6
-enum-told-6 c = search rules
+enum_told-in-Value-outcome : tie.Need-enum_told-in-Value-outcome
+enum_told-in-Value-outcome c = search rules
 
-enum-known-operation-3 : tie.Need-enum-known-operation-3
-enum-known-operation-3 c = search rules
+enum_known-operation-in-Look-1 : tie.Need-enum_known-operation-in-Look-1
+enum_known-operation-in-Look-1 c = search rules
 
-enum-known-outcome : tie.Need-enum-known-outcome
-enum-known-outcome c = search rules
+enum_known-outcome : tie.Need-enum_known-outcome
+enum_known-outcome c = search rules
 
-class-of-look-requires : tie.Need-class-of-look-requires
-class-of-look-requires c κs = search rules
+class_of_look-requires : tie.Need-class_of_look-requires
+class_of_look-requires c κs = search rules
 
-enum-told-7 : tie.Need-enum-told-7
-enum-told-7 c = search rules
+enum_told-in-Ok-outcome-2 : tie.Need-enum_told-in-Ok-outcome-2
+enum_told-in-Ok-outcome-2 c = search rules
 
-enum-told-8 : tie.Need-enum-told-8
-enum-told-8 c = search rules
+enum_told-in-Fail-outcome-2 : tie.Need-enum_told-in-Fail-outcome-2
+enum_told-in-Fail-outcome-2 c = search rules
 
-returns : tie.Need-returns
-returns c = rw (c.before.before.before.operation.given.1, c.enum_told.given.1, to_z-of_z (cast-t9 c)) refl
+returns-in-Ok : tie.Need-returns-in-Ok
+returns-in-Ok c = rw (c.before.before.before.operation-1.given.1, c.enum_told-1.given.1, to_z-of_z (overflow_cast-result c)) refl
 
-returns-2 : tie.Need-returns-2
-returns-2 c = rw (c.before.before.before.operation.given.1, c.enum-told2.given.1, to_z-of_z (cast-t10 c)) refl
+returns-in-Fail : tie.Need-returns-in-Fail
+returns-in-Fail c = rw (c.before.before.before.operation-1.given.1, c.enum_told-in-Fail-1.given.1, to_z-of_z (overflow_cast-result-in-Fail c)) refl
 
-returns-3 : tie.Need-returns-3
-returns-3 c = rw (c.before.before.before.operation.given.1, c.enum-told3.given.1) refl
+returns-in-Value : tie.Need-returns-in-Value
+returns-in-Value c = rw (c.before.before.before.operation-1.given.1, c.enum_told-in-Value-1.given.1) refl
 
-returns-4 : tie.Need-returns-4
-returns-4 c = rw (c.before.before.before.operation2.given.1, c.enum-told4.given.1, to_z-of_z (cast-t12 c)) refl
+returns-in-Ok-outcome : tie.Need-returns-in-Ok-outcome
+returns-in-Ok-outcome c = rw (c.before.before.before.operation-in-Take-1.given.1, c.enum_told-in-Ok-outcome-1.given.1, to_z-of_z (overflow_cast-result-in-Ok-outcome c)) refl
 
-returns-5 : tie.Need-returns-5
-returns-5 c = rw (c.before.before.before.operation2.given.1, c.enum-told5.given.1, to_z-of_z (cast-t13 c)) refl
+returns-in-Fail-outcome : tie.Need-returns-in-Fail-outcome
+returns-in-Fail-outcome c = rw (c.before.before.before.operation-in-Take-1.given.1, c.enum_told-in-Fail-outcome-1.given.1, to_z-of_z (overflow_cast-result-in-Fail-outcome c)) refl
 
-returns-6 : tie.Need-returns-6
-returns-6 c = rw (c.before.before.before.operation2.given.1, c.enum-told6.given.1) refl
+returns-in-Value-outcome : tie.Need-returns-in-Value-outcome
+returns-in-Value-outcome c = rw (c.before.before.before.operation-in-Take-1.given.1, c.enum_told-in-Value-outcome-1.given.1) refl
 
-returns-7 : tie.Need-returns-7
-returns-7 c =
+returns-in-Value-outcome-2 : tie.Need-returns-in-Value-outcome-2
+returns-in-Value-outcome-2 c =
     let o = c.before.before in
-    let part = o.before.before.before.operation3.given in
-    let fits : SFits w64 o.outcome.given.0.0 = record { sfits = c.before.known-told4.given.0.1 } in
-    rw (part.1, o.outcome.given.1) (c.class-of-look.ensures ∙ ap (λ v. class_of (Look part.0.0) (Value v)) (to_z-of_z fits))
+    let part = o.before.before.before.operation-in-Look-1.given in
+    let fits : SFits w64 o.outcome-1.given.0.0 = record { sfits = c.before.known_told-in-Look-2.given.0.1 } in
+    rw (part.1, o.outcome-1.given.1) (c.class_of_look.ensures ∙ ap (λ v. class_of (Look part.0.0) (Value v)) (to_z-of_z fits))
 
-returns-8 : tie.Need-returns-8
-returns-8 c = rw (c.before.before.before.operation3.given.1, c.enum-told7.given.1) refl
+returns-in-Ok-outcome-2 : tie.Need-returns-in-Ok-outcome-2
+returns-in-Ok-outcome-2 c = rw (c.before.before.before.operation-in-Look-1.given.1, c.enum_told-in-Ok-outcome-2-1.given.1) refl
 
-returns-9 : tie.Need-returns-9
-returns-9 c = rw (c.before.before.before.operation3.given.1, c.enum-told8.given.1) refl
+returns-in-Fail-outcome-2 : tie.Need-returns-in-Fail-outcome-2
+returns-in-Fail-outcome-2 c = rw (c.before.before.before.operation-in-Look-1.given.1, c.enum_told-in-Fail-outcome-2-1.given.1) refl
 
 pub class_of_spec : {M : Type 1} → statement M
 class_of_spec =
     tie.close
     (tie.spec
-    enum-known-operation
-    enum_told
-    cast-t9
-    enum-told-2
-    cast-t10
-    enum-told-3
-    enum-known-operation-2
-    enum-told-4
-    cast-t12
-    enum-told-5
-    cast-t13
-    enum-told-6
-    enum-known-operation-3
-    enum-known-outcome
-    class-of-look-requires
-    enum-told-7
-    enum-told-8
-    returns
-    returns-2
-    returns-3
-    returns-4
-    returns-5
-    returns-6
-    returns-7
-    returns-8
-    returns-9)
+    enum_known-operation
+    enum_told-1
+    overflow_cast-result
+    enum_told-in-Fail
+    overflow_cast-result-in-Fail
+    enum_told-in-Value
+    enum_known-operation-in-Take-1
+    enum_told-in-Ok-outcome
+    overflow_cast-result-in-Ok-outcome
+    enum_told-in-Fail-outcome
+    overflow_cast-result-in-Fail-outcome
+    enum_told-in-Value-outcome
+    enum_known-operation-in-Look-1
+    enum_known-outcome
+    class_of_look-requires
+    enum_told-in-Ok-outcome-2
+    enum_told-in-Fail-outcome-2
+    returns-in-Ok
+    returns-in-Fail
+    returns-in-Value
+    returns-in-Ok-outcome
+    returns-in-Fail-outcome
+    returns-in-Value-outcome
+    returns-in-Value-outcome-2
+    returns-in-Ok-outcome-2
+    returns-in-Fail-outcome-2)

@@ -19,20 +19,20 @@ neither i (pos (suc zero)) one nought = absurd (one refl)
 neither i (pos (suc (suc n))) one nought = refl
 neither i (negsuc n) one nought = refl
 
-cast-t4 : tie.Need-overflow-cast-t4
-cast-t4 c = search rules
+overflow_cast-result : tie.Need-overflow_cast-result
+overflow_cast-result c = search rules
+
+returns-then-value-eq-IN : tie.Need-returns-then-value-eq-IN
+returns-then-value-eq-IN c = rw (same_bits c.before.args.value (pos 1) c.before.ranges.value (search rules) c.if-value-eq-IN.true, to_z-of_z (overflow_cast-result c)) refl
+
+overflow_cast-result-then-value-eq-OUT : tie.Need-overflow_cast-result-then-value-eq-OUT
+overflow_cast-result-then-value-eq-OUT c = search rules
+
+returns-then-value-eq-OUT : tie.Need-returns-then-value-eq-OUT
+returns-then-value-eq-OUT c = rw (same_bits c.before.before.args.value (pos 0) c.before.before.ranges.value (search rules) c.if-value-eq-OUT.true, to_z-of_z (overflow_cast-result-then-value-eq-OUT c)) refl
 
 returns : tie.Need-returns
-returns c = rw (same_bits c.before.args.value (pos 1) c.before.ranges.value (search rules) c.if1.true, to_z-of_z (cast-t4 c)) refl
-
-cast-t5 : tie.Need-overflow-cast-t5
-cast-t5 c = search rules
-
-returns-2 : tie.Need-returns-2
-returns-2 c = rw (same_bits c.before.before.args.value (pos 0) c.before.before.ranges.value (search rules) c.if2.true, to_z-of_z (cast-t5 c)) refl
-
-returns-3 : tie.Need-returns-3
-returns-3 c = neither c.before.before.args.part c.before.before.args.value c.before.if1.false c.if2.false
+returns c = neither c.before.before.args.part c.before.before.args.value c.before.if-value-eq-IN.false c.if-value-eq-OUT.false
 
 pub class_of_look_spec : {M : Type 1} → statement M
-class_of_look_spec = tie.close (tie.spec cast-t4 returns cast-t5 returns-2 returns-3)
+class_of_look_spec = tie.close (tie.spec overflow_cast-result returns-then-value-eq-IN overflow_cast-result-then-value-eq-OUT returns-then-value-eq-OUT returns)

@@ -3,20 +3,20 @@ use borrow.Author.Rules.{rules}
 use Rattle.bin.proofs.look.Statement.{statement}
 use Rattle.bin.proofs.look.Tie as tie
 
-is-in-requires : tie.Need-is-in-requires
-is-in-requires c κs = search rules
+is_in-requires : tie.Need-is_in-requires
+is_in-requires c κs = search rules
 
 kept-requires : tie.Need-kept-requires
 kept-requires c κs = search rules
 
-returns : tie.Need-returns
-returns c = rw (sym c.before.before.is-in.ensures ∙ c.before.if1.true) c.kept.ensures
+returns-then-is_in : tie.Need-returns-then-is_in
+returns-then-is_in c = rw (sym c.before.before.is_in.ensures ∙ c.before.if-is_in.true) c.kept.ensures
 
 kept-requires-2 : tie.Need-kept-requires-2
 kept-requires-2 c κs = search rules
 
-returns-2 : tie.Need-returns-2
-returns-2 c = rw (sym c.before.before.is-in.ensures ∙ c.before.if1.false) c.kept2.ensures
+returns : tie.Need-returns
+returns c = rw (sym c.before.before.is_in.ensures ∙ c.before.if-is_in.false) c.kept-2.ensures
 
 pub look_spec : {M : Type 1} → statement M
-look_spec = tie.close (tie.spec is-in-requires kept-requires returns kept-requires-2 returns-2)
+look_spec = tie.close (tie.spec is_in-requires kept-requires returns-then-is_in kept-requires-2 returns)

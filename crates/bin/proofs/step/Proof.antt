@@ -2,43 +2,43 @@ use borrow.Author.Rules.{rules}
 use Rattle.bin.proofs.step.Statement.{statement}
 use Rattle.bin.proofs.step.Tie as tie
 
-enum-known-operation : tie.Need-enum-known-operation
-enum-known-operation c = search rules
+enum_known-operation : tie.Need-enum_known-operation
+enum_known-operation c = search rules
 
 put-requires : tie.Need-put-requires
-put-requires c κs = rw c.before.operation.given.1 at c.before.before.before.requires
+put-requires c κs = rw c.before.operation-1.given.1 at c.before.before.before.requires
 
-enum-known-operation-2 : tie.Need-enum-known-operation-2
-enum-known-operation-2 c = search rules
+enum_known-operation-in-Take-1 : tie.Need-enum_known-operation-in-Take-1
+enum_known-operation-in-Take-1 c = search rules
 
 take-requires : tie.Need-take-requires
-take-requires c κs = rw c.before.operation2.given.1 at c.before.before.before.requires
+take-requires c κs = rw c.before.operation-in-Take-1.given.1 at c.before.before.before.requires
 
-enum-known-operation-3 : tie.Need-enum-known-operation-3
-enum-known-operation-3 c = search rules
+enum_known-operation-in-Look-1 : tie.Need-enum_known-operation-in-Look-1
+enum_known-operation-in-Look-1 c = search rules
 
 look-requires : tie.Need-look-requires
-look-requires c κs = rw c.before.operation3.given.1 at c.before.before.before.requires
+look-requires c κs = rw c.before.operation-in-Look-1.given.1 at c.before.before.before.requires
 
-returns : tie.Need-returns
-returns c = rw c.before.before.operation.given.1 c.put.ensures
+returns-in-Put : tie.Need-returns-in-Put
+returns-in-Put c = rw c.before.before.operation-1.given.1 c.put.ensures
 
-returns-2 : tie.Need-returns-2
-returns-2 c = rw c.before.before.operation2.given.1 c.take.ensures
+returns-in-Take : tie.Need-returns-in-Take
+returns-in-Take c = rw c.before.before.operation-in-Take-1.given.1 c.take.ensures
 
-returns-3 : tie.Need-returns-3
-returns-3 c = rw c.before.before.operation3.given.1 c.look.ensures
+returns-in-Look : tie.Need-returns-in-Look
+returns-in-Look c = rw c.before.before.operation-in-Look-1.given.1 c.look.ensures
 
 pub step_spec : {M : Type 1} → statement M
 step_spec =
     tie.close
     (tie.spec
-    enum-known-operation
+    enum_known-operation
     put-requires
-    enum-known-operation-2
+    enum_known-operation-in-Take-1
     take-requires
-    enum-known-operation-3
+    enum_known-operation-in-Look-1
     look-requires
-    returns
-    returns-2
-    returns-3)
+    returns-in-Put
+    returns-in-Take
+    returns-in-Look)

@@ -3,17 +3,17 @@ use borrow.Author.Rules.{rules}
 use Rattle.counter.proofs.shape_of.Statement.{statement}
 use Rattle.counter.proofs.shape_of.Tie as tie
 
-enum_told : tie.Need-enum-told
-enum_told c = search rules
+enum_told-1 : tie.Need-enum_told-1
+enum_told-1 c = search rules
 
-enum-told-2 : tie.Need-enum-told-2
-enum-told-2 c = search rules
+enum_told-in-Count : tie.Need-enum_told-in-Count
+enum_told-in-Count c = search rules
 
-returns : tie.Need-returns
-returns c = rw c.enum_told.given.1 refl
+returns-in-Adjust : tie.Need-returns-in-Adjust
+returns-in-Adjust c = rw c.enum_told-1.given.1 refl
 
-returns-2 : tie.Need-returns-2
-returns-2 c = rw c.enum-told2.given.1 refl
+returns-in-Count : tie.Need-returns-in-Count
+returns-in-Count c = rw c.enum_told-in-Count-1.given.1 refl
 
 pub shape_of_spec : {M : Type 1} → statement M
-shape_of_spec = tie.close (tie.spec enum_told enum-told-2 returns returns-2)
+shape_of_spec = tie.close (tie.spec enum_told-1 enum_told-in-Count returns-in-Adjust returns-in-Count)

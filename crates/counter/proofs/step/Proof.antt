@@ -26,36 +26,36 @@ module _ {a b : ℤ} (fa : SFits w32 a) (fb : SFits w32 b) (room : nat_abs (a +�
   sum_is : to_z w32 (of_z w32 (to_z w32 (of_z w32 a) +ℤ to_z w32 (of_z w32 b))) ≡ a +ℤ b
   sum_is = rw (to_z-of_z fa, to_z-of_z fb) (to_z-of_z (held (a +ℤ b) room))
 
-count_held : (c : tie.After-struct-told) → SFits w32 c.before.args.counter.count
-count_held c = record { sfits = c.struct_told.given.0.1 }
+count_held : (c : tie.After-struct_told-1) → SFits w32 c.before.args.counter.count
+count_held c = record { sfits = c.struct_told-1.given.0.1 }
 
-adjustment-held : (c : tie.After-known-told) → SFits w32 c.before.operation.given.0.0
-adjustment-held c = record { sfits = c.known-told.given.0.1 }
+adjustment-held : (c : tie.In-Adjust) → SFits w32 c.before.operation-1.given.0.0
+adjustment-held c = record { sfits = c.known_told-1.given.0.1 }
 
-room : (c : tie.After-known-told) → nat_abs (c.before.before.before.before.args.counter.count +ℤ c.before.operation.given.0.0) < 2 ^ 31
-room c = rw c.before.operation.given.1 at c.before.before.before.before.requires
+room : (c : tie.In-Adjust) → nat_abs (c.before.before.before.before.args.counter.count +ℤ c.before.operation-1.given.0.0) < 2 ^ 31
+room c = rw c.before.operation-1.given.1 at c.before.before.before.before.requires
 
-enum-known-operation : tie.Need-enum-known-operation
-enum-known-operation c = search rules
+enum_known-operation : tie.Need-enum_known-operation
+enum_known-operation c = search rules
 
-add-t6 : tie.Need-overflow-add-t6
-add-t6 c = sum_held (count_held c.before.before.before) (adjustment-held c) (room c)
+overflow_add-result : tie.Need-overflow_add-result
+overflow_add-result c = sum_held (count_held c.before.before.before) (adjustment-held c) (room c)
 
-enum_told : tie.Need-enum-told
-enum_told c = search rules
+enum_told-1 : tie.Need-enum_told-1
+enum_told-1 c = search rules
 
-cast-t11 : tie.Need-overflow-cast-t11
-cast-t11 c = widens (count_held c.before.before)
+overflow_cast-result : tie.Need-overflow_cast-result
+overflow_cast-result c = widens (count_held c.before.before)
 
 abbrev adjusted : ℤ → Stepped
 adjusted z = record { state = counter_of z; outcome = Ok }
 
-returns : tie.Need-returns
-returns c =
-    rw c.before.operation.given.1 (ap adjusted (sum_is (count_held c.before.before.before) (adjustment-held c) (room c)))
+returns-in-Adjust : tie.Need-returns-in-Adjust
+returns-in-Adjust c =
+    rw c.before.operation-1.given.1 (ap adjusted (sum_is (count_held c.before.before.before) (adjustment-held c) (room c)))
 
-returns-2 : tie.Need-returns-2
-returns-2 c = rw (c.enum_told.given.1, signed_bound _ (count_held c.before.before))
+returns-in-Count : tie.Need-returns-in-Count
+returns-in-Count c = rw (c.enum_told-1.given.1, signed_bound _ (count_held c.before.before))
 
 pub step_spec : {M : Type 1} → statement M
-step_spec = tie.close (tie.spec enum-known-operation add-t6 enum_told cast-t11 returns returns-2)
+step_spec = tie.close (tie.spec enum_known-operation overflow_add-result enum_told-1 overflow_cast-result returns-in-Adjust returns-in-Count)

@@ -3,20 +3,20 @@ use borrow.Author.Rules.{rules}
 use Rattle.register.proofs.step.Statement.{statement}
 use Rattle.register.proofs.step.Tie as tie
 
-enum_told : tie.Need-enum-told
-enum_told c = search rules
+enum_told-1 : tie.Need-enum_told-1
+enum_told-1 c = search rules
 
-cast-t6 : tie.Need-overflow-cast-t6
-cast-t6 c = search rules
+overflow_cast-result : tie.Need-overflow_cast-result
+overflow_cast-result c = search rules
 
-enum-known-operation : tie.Need-enum-known-operation
-enum-known-operation c = search rules
+enum_known-operation : tie.Need-enum_known-operation
+enum_known-operation c = search rules
 
-returns : tie.Need-returns
-returns c = rw (c.before.enum_told.given.1, to_z-of_z (cast-t6 c))
+returns-in-Read : tie.Need-returns-in-Read
+returns-in-Read c = rw (c.before.enum_told-1.given.1, to_z-of_z (overflow_cast-result c))
 
-returns-2 : tie.Need-returns-2
-returns-2 c = rw c.before.operation.given.1
+returns-in-Write : tie.Need-returns-in-Write
+returns-in-Write c = rw c.before.operation-1.given.1
 
 pub step_spec : {M : Type 1} → statement M
-step_spec = tie.close (tie.spec enum_told cast-t6 enum-known-operation returns returns-2)
+step_spec = tie.close (tie.spec enum_told-1 overflow_cast-result enum_known-operation returns-in-Read returns-in-Write)

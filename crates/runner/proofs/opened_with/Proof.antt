@@ -16,29 +16,29 @@ use Rattle.runner.proofs.opened_with.Tie as tie
 abbrev objects : tie.Start → List Object
 objects c = items_from (object_item c.args.file.now) c.args.part.lines c.args.part.start
 
-fronts : (c : tie.After-objects-in) → Front (map (λ o. o.letter) (objects c.before.before)) c.objects-in.result.count c.objects-in.result.kinds
-    × Front (map (λ o. o.opening) (objects c.before.before)) c.objects-in.result.count c.objects-in.result.openings
+fronts : (c : tie.After-objects_in-objects) → Front (map (λ o. o.letter) (objects c.before.before)) c.objects_in-objects.result.count c.objects_in-objects.result.kinds-1
+    × Front (map (λ o. o.opening) (objects c.before.before)) c.objects_in-objects.result.count c.objects_in-objects.result.openings-1
 fronts c =
-    columns_front (objects c.before.before) c.objects-in.result c.objects-in.ensures
+    columns_front (objects c.before.before) c.objects_in-objects.result c.objects_in-objects.ensures
     (omega (arith, items_most (object_item c.before.before.args.file.now) c.before.before.args.part.lines c.before.before.args.part.start, c.before.before.requires))
 
 same_opened : {k l : List ℕ} {o p : List ℤ} → k ≡ l → o ≡ p → open_of k o ≡ open_of l p
 same_opened d e = rw (d, e)
 
-objects-in-requires : tie.Need-objects-in-requires
-objects-in-requires c κs = search rules
+objects_in-objects-requires : tie.Need-objects_in-objects-requires
+objects_in-objects-requires c κs = search rules
 
-array-share-prefix-kinds : tie.Need-array-share-prefix-kinds
-array-share-prefix-kinds c = (fronts c.before.before).0.room
+slice_bounds-kinds-end : tie.Need-slice_bounds-kinds-end
+slice_bounds-kinds-end c = (fronts c.before.before).0.room
 
-slice-aggregate-open : tie.Need-slice-aggregate-open
-slice-aggregate-open c = (fronts c.before.before.before).0.size
+slice_bounds-open-end : tie.Need-slice_bounds-open-end
+slice_bounds-open-end c = (fronts c.before.before.before).0.size
 
-array-share-prefix-openings : tie.Need-array-share-prefix-openings
-array-share-prefix-openings c = (fronts c.before.before.before).1.room
+slice_bounds-openings-end : tie.Need-slice_bounds-openings-end
+slice_bounds-openings-end c = (fronts c.before.before.before).1.room
 
-slice-aggregate-open-2 : tie.Need-slice-aggregate-open-2
-slice-aggregate-open-2 c = (fronts c.before.before.before.before).1.size
+slice_bounds-open-end-2 : tie.Need-slice_bounds-open-end-2
+slice_bounds-open-end-2 c = (fronts c.before.before.before.before).1.size
 
 open-requires : tie.Need-open-requires
 open-requires c κs = search rules
@@ -52,10 +52,10 @@ pub opened_with_spec : {M : Type 1} → statement M
 opened_with_spec =
     tie.close
     (tie.spec
-    objects-in-requires
-    array-share-prefix-kinds
-    slice-aggregate-open
-    array-share-prefix-openings
-    slice-aggregate-open-2
+    objects_in-objects-requires
+    slice_bounds-kinds-end
+    slice_bounds-open-end
+    slice_bounds-openings-end
+    slice_bounds-open-end-2
     open-requires
     returns)

@@ -15,70 +15,70 @@ use Rattle.runner.proofs.reply_to.Tie as tie
 replied : (store : Store) (call asked : Call) (r : Reply) → call ≡ asked → r ≡ reply_to store (call_of asked) → r ≡ reply_to store (call_of call)
 replied store call asked r e d = rw e d
 
-enum-known-call : tie.Need-enum-known-call
-enum-known-call c = search rules
+enum_known-call : tie.Need-enum_known-call
+enum_known-call c = search rules
 
 create-requires : tie.Need-create-requires
 create-requires c κs = search rules
 
-enum-known-call-2 : tie.Need-enum-known-call-2
-enum-known-call-2 c = search rules
+enum_known-call-in-Access-1 : tie.Need-enum_known-call-in-Access-1
+enum_known-call-in-Access-1 c = search rules
 
-create-requires-2 : tie.Need-create-requires-2
-create-requires-2 c κs = search rules
+create-requires-in-Access : tie.Need-create-requires-in-Access
+create-requires-in-Access c κs = search rules
 
-enum-known-call-3 : tie.Need-enum-known-call-3
-enum-known-call-3 c = search rules
+enum_known-call-in-Respond-1 : tie.Need-enum_known-call-in-Respond-1
+enum_known-call-in-Respond-1 c = search rules
 
 respond-requires : tie.Need-respond-requires
 respond-requires c κs = search rules
 
-enum-known-call-4 : tie.Need-enum-known-call-4
-enum-known-call-4 c = search rules
+enum_known-call-in-Commit-1 : tie.Need-enum_known-call-in-Commit-1
+enum_known-call-in-Commit-1 c = search rules
 
 commit-requires : tie.Need-commit-requires
 commit-requires c κs = search rules
 
-enum-known-call-5 : tie.Need-enum-known-call-5
-enum-known-call-5 c = search rules
+enum_known-call-in-Abort-1 : tie.Need-enum_known-call-in-Abort-1
+enum_known-call-in-Abort-1 c = search rules
 
 abort-requires : tie.Need-abort-requires
 abort-requires c κs = search rules
 
-returns : tie.Need-returns
-returns c = replied _ _ _ _ c.before.before.call.given.1 c.create.ensures
+returns-in-Plain : tie.Need-returns-in-Plain
+returns-in-Plain c = replied _ _ _ _ c.before.before.call-1.given.1 c.create.ensures
 
-returns-2 : tie.Need-returns-2
-returns-2 c =
-    let z = c.before.before.call2.given.0.1.1.1.0 in
+returns-in-Access : tie.Need-returns-in-Access
+returns-in-Access c =
+    let z = c.before.before.call-in-Access-1.given.0.1.1.1.0 in
     let f : SFits w64 z = search rules in
-    replied _ _ _ _ c.before.before.call2.given.1 (rw (to_z-of_z w64 z f) at c.create2.ensures)
+    replied _ _ _ _ c.before.before.call-in-Access-1.given.1 (rw (to_z-of_z w64 z f) at c.create-in-Access.ensures)
 
-returns-3 : tie.Need-returns-3
-returns-3 c = replied _ _ _ _ c.before.before.call3.given.1 c.respond.ensures
+returns-in-Respond : tie.Need-returns-in-Respond
+returns-in-Respond c = replied _ _ _ _ c.before.before.call-in-Respond-1.given.1 c.respond.ensures
 
-returns-4 : tie.Need-returns-4
-returns-4 c = replied _ _ _ _ c.before.before.call4.given.1 c.commit.ensures
+returns-in-Commit : tie.Need-returns-in-Commit
+returns-in-Commit c = replied _ _ _ _ c.before.before.call-in-Commit-1.given.1 c.commit.ensures
 
-returns-5 : tie.Need-returns-5
-returns-5 c = replied _ _ _ _ c.before.before.call5.given.1 c.abort.ensures
+returns-in-Abort : tie.Need-returns-in-Abort
+returns-in-Abort c = replied _ _ _ _ c.before.before.call-in-Abort-1.given.1 c.abort.ensures
 
 pub reply_to_spec : {M : Type 1} → statement M
 reply_to_spec =
     tie.close
     (tie.spec
-    enum-known-call
+    enum_known-call
     create-requires
-    enum-known-call-2
-    create-requires-2
-    enum-known-call-3
+    enum_known-call-in-Access-1
+    create-requires-in-Access
+    enum_known-call-in-Respond-1
     respond-requires
-    enum-known-call-4
+    enum_known-call-in-Commit-1
     commit-requires
-    enum-known-call-5
+    enum_known-call-in-Abort-1
     abort-requires
-    returns
-    returns-2
-    returns-3
-    returns-4
-    returns-5)
+    returns-in-Plain
+    returns-in-Access
+    returns-in-Respond
+    returns-in-Commit
+    returns-in-Abort)

@@ -14,61 +14,61 @@ use Rattle.output.proofs.Lines.{opened_low, opened_only, opened_run}
 use Rattle.runner.proofs.run_good.Statement.{statement}
 use Rattle.runner.proofs.run_good.Tie as tie
 
-module _ (c : tie.After-opened-with) where
-  fits : SFits w64 c.Opened-with.result.answer.b
+module _ (c : tie.After-opened_with-opened) where
+  fits : SFits w64 c.Opened-with.result.answer-1.b
   fits = search rules
 
-  low : c.Opened-with.result.answer.code < codes_below
+  low : c.Opened-with.result.answer-1.code < codes_below
   low = opened_low (objects_in c.before.before.before.args.file.now c.before.before.before.args.layout) _ c.Opened-with.ensures
 
-  short : length (line_of c.Opened-with.result.answer) ≤ answer_most
+  short : length (line_of c.Opened-with.result.answer-1) ≤ answer_most
   short = answer_most_lem _ _ _ low (search rules) fits
 
-put : (c : tie.After-put-answer) → Puts c.before.before.before.before.before.before.before.args.out.now 0 (line_of c.before.before.before.before.Opened-with.result.answer) c.put_answer.result c.put_answer.new.0
-put c = rw (to_z-of_z w64 c.before.before.before.before.Opened-with.result.answer.b (fits c.before.before.before.before)) at c.put_answer.ensures
+put : (c : tie.After-put_answer-end) → Puts c.before.before.before.before.before.before.before.args.out.now 0 (line_of c.before.before.before.before.Opened-with.result.answer-1) c.put_answer-end.result c.put_answer-end.new.0
+put c = rw (to_z-of_z w64 c.before.before.before.before.Opened-with.result.answer-1.b (fits c.before.before.before.before)) at c.put_answer-end.ensures
 
-opened-with-requires : tie.Need-opened-with-requires
-opened-with-requires c κs = search rules
+opened_with-opened-requires : tie.Need-opened_with-opened-requires
+opened_with-opened-requires c κs = search rules
 
-put-answer-requires : tie.Need-put-answer-requires
-put-answer-requires c κs = (low c.before.before.before, omega arith)
+put_answer-end-requires : tie.Need-put_answer-end-requires
+put_answer-end-requires c κs = (low c.before.before.before, omega arith)
 
-same_length : tie.Need-same-length
-same_length c = search rules
+shape_of-out-then-answer-ne0 : tie.Need-shape_of-out-then-answer-ne0
+shape_of-out-then-answer-ne0 c = search rules
 
-returns : tie.Need-returns
-returns c =
+returns-then-answer-ne0 : tie.Need-returns-then-answer-ne0
+returns-then-answer-ne0 c =
     let p = c.before.before.before.before in
     let d = p.before.before.before.before in
     let a = d.before.before.before.args in
-    rw (opened_only (opened_with (objects_in a.file.now a.layout)) d.Opened-with.result (calls_in a.file.now a.layout) d.Opened-with.ensures c.if1.true)
+    rw (opened_only (opened_with (objects_in a.file.now a.layout)) d.Opened-with.result (calls_in a.file.now a.layout) d.Opened-with.ensures c.if-answer-ne0.true)
     (put p)
 
-run-calls-requires : tie.Need-run-calls-requires
-run-calls-requires c κs =
+run_calls-requires : tie.Need-run_calls-requires
+run_calls-requires c κs =
     let p = c.before.before.before.before.before in
-    omega (arith, (put p).next, p.put_answer.auto.0, short p.before.before.before.before, p.before.before.before.before.before.before.before.requires)
+    omega (arith, (put p).next, p.put_answer-end.auto.0, short p.before.before.before.before, p.before.before.before.before.before.before.before.requires)
 
-same-length-2 : tie.Need-same-length-2
-same-length-2 c = search rules
+shape_of-out : tie.Need-shape_of-out
+shape_of-out c = search rules
 
-returns-2 : tie.Need-returns-2
-returns-2 c =
+returns : tie.Need-returns
+returns c =
     let e = c.before.before.before.before in
     let p = e.before.before.before.before in
     let d = p.before.before.before.before in
     let a = d.before.before.before.args in
-    rw (opened_run (opened_with (objects_in a.file.now a.layout)) d.Opened-with.result (calls_in a.file.now a.layout) d.Opened-with.ensures e.if1.false)
-    (put_then (put p) c.before.before.run-calls.ensures)
+    rw (opened_run (opened_with (objects_in a.file.now a.layout)) d.Opened-with.result (calls_in a.file.now a.layout) d.Opened-with.ensures e.if-answer-ne0.false)
+    (put_then (put p) c.before.before.run_calls.ensures)
 
 pub run_good_spec : {M : Type 1} → statement M
 run_good_spec =
     tie.close
     (tie.spec
-    opened-with-requires
-    put-answer-requires
-    same_length
-    returns
-    run-calls-requires
-    same-length-2
-    returns-2)
+    opened_with-opened-requires
+    put_answer-end-requires
+    shape_of-out-then-answer-ne0
+    returns-then-answer-ne0
+    run_calls-requires
+    shape_of-out
+    returns)

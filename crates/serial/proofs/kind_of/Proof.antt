@@ -3,25 +3,25 @@ use borrow.Author.Tests.{ne_eqb}
 use Rattle.serial.proofs.kind_of.Statement.{statement}
 use Rattle.serial.proofs.kind_of.Tie as tie
 
-returns : tie.Need-returns
+returns-in-65 : tie.Need-returns-in-65
 unfolding kind_of
-returns c = rw c.match.keys1
+returns-in-65 c = rw c.in_default.keys1
 
-returns-2 : tie.Need-returns-2
+returns-in-82 : tie.Need-returns-in-82
 unfolding kind_of
-returns-2 c = rw c.match.keys2
+returns-in-82 c = rw c.in_default.keys2
 
-returns-3 : tie.Need-returns-3
+returns-in-75 : tie.Need-returns-in-75
 unfolding kind_of
-returns-3 c = rw c.match.keys3
+returns-in-75 c = rw c.in_default.keys3
 
-returns-4 : tie.Need-returns-4
+returns-in-83 : tie.Need-returns-in-83
 unfolding kind_of
-returns-4 c = rw c.match.keys4
+returns-in-83 c = rw c.in_default.keys4
 
-returns-5 : tie.Need-returns-5
+returns-in_default : tie.Need-returns-in_default
 unfolding kind_of
-returns-5 c = rw (ne_eqb _ _ c.match.rest.0.0.0.1, ne_eqb _ _ c.match.rest.0.0.1, ne_eqb _ _ c.match.rest.0.1, ne_eqb _ _ c.match.rest.1)
+returns-in_default c = rw (ne_eqb _ _ c.in_default.rest.0.0.0.1, ne_eqb _ _ c.in_default.rest.0.0.1, ne_eqb _ _ c.in_default.rest.0.1, ne_eqb _ _ c.in_default.rest.1)
 
 pub kind_of_spec : {M : Type 1} → statement M
-kind_of_spec = tie.close (tie.spec returns returns-2 returns-3 returns-4 returns-5)
+kind_of_spec = tie.close (tie.spec returns-in-65 returns-in-82 returns-in-75 returns-in-83 returns-in_default)

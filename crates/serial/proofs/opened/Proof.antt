@@ -3,63 +3,63 @@ use borrow.Author.Rules.{rules}
 use Rattle.serial.proofs.opened.Statement.{statement}
 use Rattle.serial.proofs.opened.Tie as tie
 
-enum_told : tie.Need-enum-told
-enum_told c = search rules
+enum_told-1 : tie.Need-enum_told-1
+enum_told-1 c = search rules
 
 opened-requires : tie.Need-opened-requires
 opened-requires c κs = search rules
 
-enum-told-2 : tie.Need-enum-told-2
-enum-told-2 c = search rules
+enum_told-in-Register : tie.Need-enum_told-in-Register
+enum_told-in-Register c = search rules
 
-opened-requires-2 : tie.Need-opened-requires-2
-opened-requires-2 c κs = search rules
+opened-requires-in-Register : tie.Need-opened-requires-in-Register
+opened-requires-in-Register c κs = search rules
 
-enum-told-3 : tie.Need-enum-told-3
-enum-told-3 c = search rules
+enum_told-in-Counter : tie.Need-enum_told-in-Counter
+enum_told-in-Counter c = search rules
 
-opened-requires-3 : tie.Need-opened-requires-3
-opened-requires-3 c κs = search rules
+opened-requires-in-Counter : tie.Need-opened-requires-in-Counter
+opened-requires-in-Counter c κs = search rules
 
-enum-told-4 : tie.Need-enum-told-4
-enum-told-4 c = search rules
+enum_told-in-Bin : tie.Need-enum_told-in-Bin
+enum_told-in-Bin c = search rules
 
-opened-requires-4 : tie.Need-opened-requires-4
-opened-requires-4 c κs = search rules
+opened-requires-in-Bin : tie.Need-opened-requires-in-Bin
+opened-requires-in-Bin c κs = search rules
 
-enum-told-5 : tie.Need-enum-told-5
-enum-told-5 c = search rules
+enum_told-in-Unknown : tie.Need-enum_told-in-Unknown
+enum_told-in-Unknown c = search rules
 
-returns : tie.Need-returns
-returns c = rw c.before.enum_told.given.1 (rw (to_z-of_z c.before.before.before.ranges.opening) at c.opened.ensures)
+returns-in-Account : tie.Need-returns-in-Account
+returns-in-Account c = rw c.before.enum_told-1.given.1 (rw (to_z-of_z c.before.before.before.ranges.opening) at c.opened.ensures)
 
-returns-2 : tie.Need-returns-2
-returns-2 c = rw c.before.enum-told2.given.1 (rw (to_z-of_z c.before.before.before.ranges.opening) at c.opened2.ensures)
+returns-in-Register : tie.Need-returns-in-Register
+returns-in-Register c = rw c.before.enum_told-in-Register-1.given.1 (rw (to_z-of_z c.before.before.before.ranges.opening) at c.opened-in-Register.ensures)
 
-returns-3 : tie.Need-returns-3
-returns-3 c = rw c.before.enum-told3.given.1 (rw (to_z-of_z c.before.before.before.ranges.opening) at c.opened3.ensures)
+returns-in-Counter : tie.Need-returns-in-Counter
+returns-in-Counter c = rw c.before.enum_told-in-Counter-1.given.1 (rw (to_z-of_z c.before.before.before.ranges.opening) at c.opened-in-Counter.ensures)
 
-returns-4 : tie.Need-returns-4
-returns-4 c = rw c.before.enum-told4.given.1 (rw (to_z-of_z c.before.before.before.ranges.opening) at c.opened4.ensures)
+returns-in-Bin : tie.Need-returns-in-Bin
+returns-in-Bin c = rw c.before.enum_told-in-Bin-1.given.1 (rw (to_z-of_z c.before.before.before.ranges.opening) at c.opened-in-Bin.ensures)
 
-returns-5 : tie.Need-returns-5
-returns-5 c = rw c.enum-told5.given.1
+returns-in-Unknown : tie.Need-returns-in-Unknown
+returns-in-Unknown c = rw c.enum_told-in-Unknown-1.given.1
 
 pub opened_spec : {M : Type 1} → statement M
 opened_spec =
     tie.close
     (tie.spec
-    enum_told
+    enum_told-1
     opened-requires
-    enum-told-2
-    opened-requires-2
-    enum-told-3
-    opened-requires-3
-    enum-told-4
-    opened-requires-4
-    enum-told-5
-    returns
-    returns-2
-    returns-3
-    returns-4
-    returns-5)
+    enum_told-in-Register
+    opened-requires-in-Register
+    enum_told-in-Counter
+    opened-requires-in-Counter
+    enum_told-in-Bin
+    opened-requires-in-Bin
+    enum_told-in-Unknown
+    returns-in-Account
+    returns-in-Register
+    returns-in-Counter
+    returns-in-Bin
+    returns-in-Unknown)

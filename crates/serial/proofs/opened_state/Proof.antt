@@ -15,22 +15,22 @@ started kind x z given found g e f = ap start_of (sym f ∙ g ∙ ap (opened_of 
 opened-requires : tie.Need-opened-requires
 opened-requires c κs = search rules
 
-enum-known-s : tie.Need-enum-known-s
-enum-known-s c = search rules
+enum_known-s : tie.Need-enum_known-s
+enum_known-s c = search rules
 
-enum_told : tie.Need-enum-told
-enum_told c = search rules
+enum_told-1 : tie.Need-enum_told-1
+enum_told-1 c = search rules
 
-returns : tie.Need-returns
-returns c =
+returns-in-At : tie.Need-returns-in-At
+returns-in-At c =
     let o = c.before.before.before in
-    started o.before.args.kind _ _ _ _ o.opened.ensures (to_z-of_z o.before.ranges.opening) c.before.s.given.1
+    started o.before.args.kind _ _ _ _ o.opened.ensures (to_z-of_z o.before.ranges.opening) c.before.s-1.given.1
 
-returns-2 : tie.Need-returns-2
-returns-2 c =
+returns-in-Refused : tie.Need-returns-in-Refused
+returns-in-Refused c =
     let o = c.before.before in
-    started o.before.args.kind _ _ _ _ o.opened.ensures (to_z-of_z o.before.ranges.opening) c.enum_told.given.1
+    started o.before.args.kind _ _ _ _ o.opened.ensures (to_z-of_z o.before.ranges.opening) c.enum_told-1.given.1
 
 pub opened_state_spec : {M : Type 1} → statement M
 opened_state_spec =
-    tie.close (tie.spec opened-requires enum-known-s enum_told returns returns-2)
+    tie.close (tie.spec opened-requires enum_known-s enum_told-1 returns-in-At returns-in-Refused)

@@ -3,64 +3,64 @@ use borrow.Author.Rules.{rules}
 use Rattle.serial.proofs.rule_of.Statement.{statement}
 use Rattle.serial.proofs.rule_of.Tie as tie
 
-enum_told : tie.Need-enum-told
-enum_told c = search rules
+enum_told-1 : tie.Need-enum_told-1
+enum_told-1 c = search rules
 
-rule-of-requires : tie.Need-rule-of-requires
-rule-of-requires c κs = search rules
+rule_of-requires : tie.Need-rule_of-requires
+rule_of-requires c κs = search rules
 
-enum-told-2 : tie.Need-enum-told-2
-enum-told-2 c = search rules
+enum_told-in-Register : tie.Need-enum_told-in-Register
+enum_told-in-Register c = search rules
 
-rule-of-requires-2 : tie.Need-rule-of-requires-2
-rule-of-requires-2 c κs = search rules
+rule_of-requires-in-Register : tie.Need-rule_of-requires-in-Register
+rule_of-requires-in-Register c κs = search rules
 
-enum-told-3 : tie.Need-enum-told-3
-enum-told-3 c = search rules
+enum_told-in-Counter : tie.Need-enum_told-in-Counter
+enum_told-in-Counter c = search rules
 
-rule-of-requires-3 : tie.Need-rule-of-requires-3
-rule-of-requires-3 c κs = search rules
+rule_of-requires-in-Counter : tie.Need-rule_of-requires-in-Counter
+rule_of-requires-in-Counter c κs = search rules
 
-enum-told-4 : tie.Need-enum-told-4
-enum-told-4 c = search rules
+enum_told-in-Bin : tie.Need-enum_told-in-Bin
+enum_told-in-Bin c = search rules
 
-rule-of-requires-4 : tie.Need-rule-of-requires-4
-rule-of-requires-4 c κs = search rules
+rule_of-requires-in-Bin : tie.Need-rule_of-requires-in-Bin
+rule_of-requires-in-Bin c κs = search rules
 
-enum-told-5 : tie.Need-enum-told-5
-enum-told-5 c = search rules
+enum_told-in-Unknown : tie.Need-enum_told-in-Unknown
+enum_told-in-Unknown c = search rules
 
-returns : tie.Need-returns
-returns c = rw c.before.enum_told.given.1 c.rule-of.ensures
+returns-in-Account : tie.Need-returns-in-Account
+returns-in-Account c = rw c.before.enum_told-1.given.1 c.rule_of.ensures
 
-returns-2 : tie.Need-returns-2
-returns-2 c = rw c.before.enum-told2.given.1 c.rule-of2.ensures
+returns-in-Register : tie.Need-returns-in-Register
+returns-in-Register c = rw c.before.enum_told-in-Register-1.given.1 c.rule_of-in-Register.ensures
 
-returns-3 : tie.Need-returns-3
-returns-3 c = rw c.before.enum-told3.given.1 c.rule-of3.ensures
+returns-in-Counter : tie.Need-returns-in-Counter
+returns-in-Counter c = rw c.before.enum_told-in-Counter-1.given.1 c.rule_of-in-Counter.ensures
 
-returns-4 : tie.Need-returns-4
-returns-4 c = rw c.before.enum-told4.given.1 c.rule-of4.ensures
+returns-in-Bin : tie.Need-returns-in-Bin
+returns-in-Bin c = rw c.before.enum_told-in-Bin-1.given.1 c.rule_of-in-Bin.ensures
 
-returns-5 : tie.Need-returns-5
+returns-in-Unknown : tie.Need-returns-in-Unknown
 unfolding entry
-returns-5 c = rw c.enum-told5.given.1
+returns-in-Unknown c = rw c.enum_told-in-Unknown-1.given.1
 
 pub rule_of_spec : {M : Type 1} → statement M
 rule_of_spec =
     tie.close
     (tie.spec
-    enum_told
-    rule-of-requires
-    enum-told-2
-    rule-of-requires-2
-    enum-told-3
-    rule-of-requires-3
-    enum-told-4
-    rule-of-requires-4
-    enum-told-5
-    returns
-    returns-2
-    returns-3
-    returns-4
-    returns-5)
+    enum_told-1
+    rule_of-requires
+    enum_told-in-Register
+    rule_of-requires-in-Register
+    enum_told-in-Counter
+    rule_of-requires-in-Counter
+    enum_told-in-Bin
+    rule_of-requires-in-Bin
+    enum_told-in-Unknown
+    returns-in-Account
+    returns-in-Register
+    returns-in-Counter
+    returns-in-Bin
+    returns-in-Unknown)

@@ -8,16 +8,16 @@ use Rattle.columns.proofs.Masks.{sift_asks, sift_gives, settle_asks, settle_give
 use Rattle.columns.proofs.order.dropped.Statement.{statement}
 use Rattle.columns.proofs.order.dropped.Tie as tie
 
-mask-beneath-requires : tie.Need-mask-beneath-requires
-mask-beneath-requires c κs = search rules
+mask_beneath-mask-requires : tie.Need-mask_beneath-mask-requires
+mask_beneath-mask-requires c κs = search rules
 
-sifted-requires : tie.Need-sifted-requires
-sifted-requires c κs = sift_asks c.before.before.before.requires.0 _ _
+sifted-stay-requires : tie.Need-sifted-stay-requires
+sifted-stay-requires c κs = sift_asks c.before.before.before.requires.0 _ _
 
 settled-requires : tie.Need-settled-requires
 settled-requires c κs =
     let s = c.before.before.before.before.before.requires.0 in
-    let e = c.before.sifted.ensures in
+    let e = c.before.sifted-stay.ensures in
     settle_asks s (sift_gives s _ _ e.0 e.1)
 
 abbrev hit : tie.Start → ℕ → Bool
@@ -27,9 +27,9 @@ returns : tie.Need-returns
 returns c =
     let a = c.before.before.before.before.before in
     let s = a.before.requires.0 in
-    let m = a.mask-beneath.ensures in
-    let e = c.before.before.sifted.ensures in
+    let m = a.mask_beneath-mask.ensures in
+    let e = c.before.before.sifted-stay.ensures in
     c.settled.ensures ∙ settle_gives s (hit a.before) m _ (sift_gives s _ _ e.0 e.1) (those_stay s (hit a.before) m)
 
 pub dropped_spec : {M : Type 1} → statement M
-dropped_spec = tie.close (tie.spec mask-beneath-requires sifted-requires settled-requires returns)
+dropped_spec = tie.close (tie.spec mask_beneath-mask-requires sifted-stay-requires settled-requires returns)

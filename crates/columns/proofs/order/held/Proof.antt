@@ -9,43 +9,43 @@ use Rattle.columns.specs.Mask.{has}
 use Rattle.columns.proofs.order.held.Statement.{statement}
 use Rattle.columns.proofs.order.held.Tie as tie
 
-abbrev invariant-loop : tie.invariant-loop
+abbrev invariant-loop : tie.invariant-loop-i
 invariant-loop holder mask rows h after₀ i₀ after i = (i ≤ rows) × (after ≡ held_by i (has mask 1) h holder)
 
-abbrev decreases-loop : tie.decreases-loop
+abbrev decreases-loop : tie.decreases-loop-i
 decreases-loop holder mask rows h after₀ i₀ after i = rows - i
 
-loop-holds : tie.Need-loop-init invariant-loop decreases-loop
-loop-holds c = (omega arith, set_start _ _)
+loop-i-init : tie.Need-loop-i-init invariant-loop decreases-loop
+loop-i-init c = (omega arith, set_start _ _)
 
-add-i : tie.Need-overflow-add-i invariant-loop decreases-loop
-add-i c = search rules
+overflow_add-i : tie.Need-overflow_add-i invariant-loop decreases-loop
+overflow_add-i c = search rules
 
-element-copy-out-if1 : tie.Need-element-copy-out-if1 invariant-loop decreases-loop
-element-copy-out-if1 c = search rules
+bounds-mask-k : tie.Need-bounds-mask-k invariant-loop decreases-loop
+bounds-mask-k c = search rules
 
-mul-after : tie.Need-overflow-mul-after invariant-loop decreases-loop
-mul-after c = search rules
+offset_bounds-after-k : tie.Need-offset_bounds-after-k invariant-loop decreases-loop
+offset_bounds-after-k c = search rules
 
-array-write-after : tie.Need-array-write-after invariant-loop decreases-loop
-array-write-after c = search rules
+bounds-after-k : tie.Need-bounds-after-k invariant-loop decreases-loop
+bounds-after-k c = search rules
 
-loop-less : tie.Need-loop-smaller invariant-loop decreases-loop
-loop-less c = search rules
+loop-i-smaller-then-mask-k-eq1 : tie.Need-loop-i-smaller-then-mask-k-eq1 invariant-loop decreases-loop
+loop-i-smaller-then-mask-k-eq1 c = search rules
 
-loop-again : tie.Need-loop-preserved invariant-loop decreases-loop
+loop-i-preserved-then-mask-k-eq1 : tie.Need-loop-i-preserved-then-mask-k-eq1 invariant-loop decreases-loop
 unfolding has
-loop-again c = (omega arith, set_store _ _ _ _ _ c.before.before.before.loop.invariant.1 (rw (eq-eqb _ _ c.if1.true)))
+loop-i-preserved-then-mask-k-eq1 c = (omega arith, set_store _ _ _ _ _ c.before.before.before.loop-i.invariant.1 (rw (eq-eqb _ _ c.if-mask-k-eq1.true)))
 
-loop-less-2 : tie.Need-loop-smaller-2 invariant-loop decreases-loop
-loop-less-2 c = search rules
+loop-i-smaller : tie.Need-loop-i-smaller invariant-loop decreases-loop
+loop-i-smaller c = search rules
 
-loop-again-2 : tie.Need-loop-preserved-2 invariant-loop decreases-loop
+loop-i-preserved : tie.Need-loop-i-preserved invariant-loop decreases-loop
 unfolding has
-loop-again-2 c = (omega arith, set_keep _ _ _ _ 0 c.before.before.before.loop.invariant.1 (rw (ne_eqb _ _ c.if1.false)))
+loop-i-preserved c = (omega arith, set_keep _ _ _ _ 0 c.before.before.before.loop-i.invariant.1 (rw (ne_eqb _ _ c.if-mask-k-eq1.false)))
 
 returns : tie.Need-returns invariant-loop decreases-loop
-returns c = set_end _ _ _ _ _ c.before.loop.invariant.1 c.before.loop.invariant.0 c.loop-test.false
+returns c = set_end _ _ _ _ _ c.before.loop-i.invariant.1 c.before.loop-i.invariant.0 c.loop-i-test.false
 
 pub held_spec : {M : Type 1} → statement M
 held_spec =
@@ -53,13 +53,13 @@ held_spec =
     (tie.spec
     invariant-loop
     decreases-loop
-    loop-holds
-    add-i
-    element-copy-out-if1
-    mul-after
-    array-write-after
-    loop-less
-    loop-again
-    loop-less-2
-    loop-again-2
+    loop-i-init
+    overflow_add-i
+    bounds-mask-k
+    offset_bounds-after-k
+    bounds-after-k
+    loop-i-smaller-then-mask-k-eq1
+    loop-i-preserved-then-mask-k-eq1
+    loop-i-smaller
+    loop-i-preserved
     returns)

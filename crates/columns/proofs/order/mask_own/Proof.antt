@@ -11,38 +11,38 @@ use Rattle.columns.specs.Tree.{marks_of}
 use Rattle.columns.proofs.order.mask_own.Statement.{statement}
 use Rattle.columns.proofs.order.mask_own.Tie as tie
 
-abbrev invariant-loop : tie.invariant-loop
+abbrev invariant-loop : tie.invariant-loop-i
 invariant-loop holder rows t mask₀ i₀ mask i = (i ≤ rows) × (mask ≡ marks_of i (λ x. eqb (at holder x) t))
 
-abbrev decreases-loop : tie.decreases-loop
+abbrev decreases-loop : tie.decreases-loop-i
 decreases-loop holder rows t mask₀ i₀ mask i = rows - i
 
-loop-holds : tie.Need-loop-init invariant-loop decreases-loop
-loop-holds c = (omega arith, set_start _ _)
+loop-i-init : tie.Need-loop-i-init invariant-loop decreases-loop
+loop-i-init c = (omega arith, set_start _ _)
 
-add-i : tie.Need-overflow-add-i invariant-loop decreases-loop
-add-i c = search rules
+overflow_add-i : tie.Need-overflow_add-i invariant-loop decreases-loop
+overflow_add-i c = search rules
 
 at16-requires : tie.Need-at16-requires invariant-loop decreases-loop
 at16-requires c κs = search rules
 
-array-write-mask : tie.Need-array-write-mask invariant-loop decreases-loop
-array-write-mask c = search rules
+bounds-mask-k : tie.Need-bounds-mask-k invariant-loop decreases-loop
+bounds-mask-k c = search rules
 
-loop-less : tie.Need-loop-smaller invariant-loop decreases-loop
-loop-less c = search rules
+loop-i-smaller-then-at16-t : tie.Need-loop-i-smaller-then-at16-t invariant-loop decreases-loop
+loop-i-smaller-then-at16-t c = search rules
 
-loop-again : tie.Need-loop-preserved invariant-loop decreases-loop
-loop-again c = (omega arith, set_store _ _ _ _ _ c.before.before.before.loop.invariant.1 (rw (← c.before.at16.ensures, eq-eqb _ _ c.if1.true)))
+loop-i-preserved-then-at16-t : tie.Need-loop-i-preserved-then-at16-t invariant-loop decreases-loop
+loop-i-preserved-then-at16-t c = (omega arith, set_store _ _ _ _ _ c.before.before.before.loop-i.invariant.1 (rw (← c.before.at16.ensures, eq-eqb _ _ c.if-at16-t.true)))
 
-loop-less-2 : tie.Need-loop-smaller-2 invariant-loop decreases-loop
-loop-less-2 c = search rules
+loop-i-smaller : tie.Need-loop-i-smaller invariant-loop decreases-loop
+loop-i-smaller c = search rules
 
-loop-again-2 : tie.Need-loop-preserved-2 invariant-loop decreases-loop
-loop-again-2 c = (omega arith, set_keep _ _ _ _ 0 c.before.before.before.loop.invariant.1 (rw (← c.before.at16.ensures, ne_eqb _ _ c.if1.false) (sym (get_or-replicate {A = ℕ} rows_most c.before.before.before.loop.i 0 0 (omega arith)))))
+loop-i-preserved : tie.Need-loop-i-preserved invariant-loop decreases-loop
+loop-i-preserved c = (omega arith, set_keep _ _ _ _ 0 c.before.before.before.loop-i.invariant.1 (rw (← c.before.at16.ensures, ne_eqb _ _ c.if-at16-t.false) (sym (get_or-replicate {A = ℕ} rows_most c.before.before.before.loop-i.i 0 0 (omega arith)))))
 
 returns : tie.Need-returns invariant-loop decreases-loop
-returns c = set_end _ _ _ _ _ c.before.loop.invariant.1 c.before.loop.invariant.0 c.loop-test.false
+returns c = set_end _ _ _ _ _ c.before.loop-i.invariant.1 c.before.loop-i.invariant.0 c.loop-i-test.false
 
 pub mask_own_spec : {M : Type 1} → statement M
 mask_own_spec =
@@ -50,12 +50,12 @@ mask_own_spec =
     (tie.spec
     invariant-loop
     decreases-loop
-    loop-holds
-    add-i
+    loop-i-init
+    overflow_add-i
     at16-requires
-    array-write-mask
-    loop-less
-    loop-again
-    loop-less-2
-    loop-again-2
+    bounds-mask-k
+    loop-i-smaller-then-at16-t
+    loop-i-preserved-then-at16-t
+    loop-i-smaller
+    loop-i-preserved
     returns)

@@ -9,21 +9,21 @@ use Rattle.columns.proofs.Masks.{sift_asks, sift_on_asks, sift_on_gives, settle_
 use Rattle.columns.proofs.order.moved.Statement.{statement}
 use Rattle.columns.proofs.order.moved.Tie as tie
 
-mask-own-requires : tie.Need-mask-own-requires
-mask-own-requires c κs = search rules
+mask_own-mask-requires : tie.Need-mask_own-mask-requires
+mask_own-mask-requires c κs = search rules
 
-sifted-requires : tie.Need-sifted-requires
-sifted-requires c κs = sift_asks c.before.before.before.requires _ _
+sifted-first-requires : tie.Need-sifted-first-requires
+sifted-first-requires c κs = sift_asks c.before.before.before.requires _ _
 
-sifted-requires-2 : tie.Need-sifted-requires-2
-sifted-requires-2 c κs = sift_on_asks c.before.before.before.before.before.before.requires _ _ c.before.before.sifted.ensures.0 _ (λ e. omega arith)
+sifted-all-requires : tie.Need-sifted-all-requires
+sifted-all-requires c κs = sift_on_asks c.before.before.before.before.before.before.requires _ _ c.before.before.sifted-first.ensures.0 _ (λ e. omega arith)
 
 settled-requires : tie.Need-settled-requires
 settled-requires c κs =
     let two = c.before in
     let one = two.before.before.before in
     let s = one.before.before.before.before.requires in
-    settle_asks s (sift_on_gives s _ _ one.sifted.ensures.0 one.sifted.ensures.1 _ (λ e. omega arith) two.sifted2.ensures.0 two.sifted2.ensures.1)
+    settle_asks s (sift_on_gives s _ _ one.sifted-first.ensures.0 one.sifted-first.ensures.1 _ (λ e. omega arith) two.sifted-all.ensures.0 two.sifted-all.ensures.1)
 
 abbrev hit : tie.Start → ℕ → Bool
 hit s x = eqb (at s.args.holder.now x) s.args.t
@@ -34,10 +34,10 @@ returns c =
     let one = two.before.before.before in
     let a = one.before.before.before in
     let s = a.before.requires in
-    let m = a.mask-own.ensures in
-    let p = sift_on_gives s _ _ one.sifted.ensures.0 one.sifted.ensures.1 _ (λ e. omega arith) two.sifted2.ensures.0 two.sifted2.ensures.1 in
+    let m = a.mask_own-mask.ensures in
+    let p = sift_on_gives s _ _ one.sifted-first.ensures.0 one.sifted-first.ensures.1 _ (λ e. omega arith) two.sifted-all.ensures.0 two.sifted-all.ensures.1 in
     c.settled.ensures ∙ settle_gives s (hit a.before) m _ p (those_part s (hit a.before) m)
 
 pub moved_spec : {M : Type 1} → statement M
 moved_spec =
-    tie.close (tie.spec mask-own-requires sifted-requires sifted-requires-2 settled-requires returns)
+    tie.close (tie.spec mask_own-mask-requires sifted-first-requires sifted-all-requires settled-requires returns)

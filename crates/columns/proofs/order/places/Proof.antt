@@ -8,41 +8,41 @@ use Rattle.columns.proofs.Work.{work_none, numbered_none, number_turn}
 use Rattle.columns.proofs.order.places.Statement.{statement}
 use Rattle.columns.proofs.order.places.Tie as tie
 
-abbrev invariant-loop : tie.invariant-loop
+abbrev invariant-loop : tie.invariant-loop-i
 invariant-loop order listed place₀ i₀ place i = (i ≤ listed) × (place ≡ places_in i order)
 
-abbrev decreases-loop : tie.decreases-loop
+abbrev decreases-loop : tie.decreases-loop-i
 decreases-loop order listed place₀ i₀ place i = listed - i
 
-loop-holds : tie.Need-loop-init invariant-loop decreases-loop
-loop-holds c = (omega arith, rw work_none (numbered_none _ _))
+loop-i-init : tie.Need-loop-i-init invariant-loop decreases-loop
+loop-i-init c = (omega arith, rw work_none (numbered_none _ _))
 
-add-i : tie.Need-overflow-add-i invariant-loop decreases-loop
-add-i c = search rules
+overflow_add-i : tie.Need-overflow_add-i invariant-loop decreases-loop
+overflow_add-i c = search rules
 
-entry-requires : tie.Need-entry-requires invariant-loop decreases-loop
-entry-requires c κs = search rules
+entry-x-requires : tie.Need-entry-x-requires invariant-loop decreases-loop
+entry-x-requires c κs = search rules
 
-cast-place : tie.Need-overflow-cast-place invariant-loop decreases-loop
-cast-place c = search rules
+overflow_cast-place : tie.Need-overflow_cast-place invariant-loop decreases-loop
+overflow_cast-place c = search rules
 
-known : (c : tie.After-entry invariant-loop decreases-loop) → c.entry.result < rows_most
-known c = omega (arith, c.before.before.before.requires.1 c.before.before.loop.i (omega arith))
+known : (c : tie.After-entry-x invariant-loop decreases-loop) → c.entry-x.result < rows_most
+known c = omega (arith, c.before.before.before.requires.1 c.before.before.loop-i.i (omega arith))
 
-mul-place : tie.Need-overflow-mul-place invariant-loop decreases-loop
-mul-place c = omega (arith, known c)
+offset_bounds-place-x : tie.Need-offset_bounds-place-x invariant-loop decreases-loop
+offset_bounds-place-x c = omega (arith, known c)
 
-array-write-place : tie.Need-array-write-place invariant-loop decreases-loop
-array-write-place c = known c
+bounds-place-x : tie.Need-bounds-place-x invariant-loop decreases-loop
+bounds-place-x c = known c
 
-loop-less : tie.Need-loop-smaller invariant-loop decreases-loop
-loop-less c = search rules
+loop-i-smaller : tie.Need-loop-i-smaller invariant-loop decreases-loop
+loop-i-smaller c = search rules
 
-loop-again : tie.Need-loop-preserved invariant-loop decreases-loop
-loop-again c = (omega arith, number_turn _ _ _ _ _ c.before.before.loop.invariant.1 c.entry.ensures)
+loop-i-preserved : tie.Need-loop-i-preserved invariant-loop decreases-loop
+loop-i-preserved c = (omega arith, number_turn _ _ _ _ _ c.before.before.loop-i.invariant.1 c.entry-x.ensures)
 
 returns : tie.Need-returns invariant-loop decreases-loop
-returns c = let z : c.before.loop.i ≡ c.before.before.args.listed = omega arith in rw z at c.before.loop.invariant.1
+returns c = let z : c.before.loop-i.i ≡ c.before.before.args.listed = omega arith in rw z at c.before.loop-i.invariant.1
 
 pub places_spec : {M : Type 1} → statement M
 places_spec =
@@ -50,12 +50,12 @@ places_spec =
     (tie.spec
     invariant-loop
     decreases-loop
-    loop-holds
-    add-i
-    entry-requires
-    cast-place
-    mul-place
-    array-write-place
-    loop-less
-    loop-again
+    loop-i-init
+    overflow_add-i
+    entry-x-requires
+    overflow_cast-place
+    offset_bounds-place-x
+    bounds-place-x
+    loop-i-smaller
+    loop-i-preserved
     returns)

@@ -12,74 +12,74 @@ use Rattle.columns.proofs.Work.{work_none, only_nil, laid_none, sift_hit, sift_m
 use Rattle.columns.proofs.order.sifted.Statement.{statement}
 use Rattle.columns.proofs.order.sifted.Tie as tie
 
-abbrev invariant-loop : tie.invariant-loop
+abbrev invariant-loop : tie.invariant-loop-i
 invariant-loop order listed mask v out₀ start n₀ i₀ out n i =
     (i ≤ listed) × (n ≡ start + length (only (has mask v) (work i order))) × (out ≡ laid out₀ start (only (has mask v) (work i order)))
 
-abbrev decreases-loop : tie.decreases-loop
+abbrev decreases-loop : tie.decreases-loop-i
 decreases-loop order listed mask v out₀ start n₀ i₀ out n i = listed - i
 
-loop-holds : tie.Need-loop-init invariant-loop decreases-loop
-loop-holds c = (omega arith, rw (work_none, only_nil) (omega arith), rw (work_none, only_nil) (laid_none _ _))
+loop-i-init : tie.Need-loop-i-init invariant-loop decreases-loop
+loop-i-init c = (omega arith, rw (work_none, only_nil) (omega arith), rw (work_none, only_nil) (laid_none _ _))
 
-add-i : tie.Need-overflow-add-i invariant-loop decreases-loop
-add-i c = search rules
+overflow_add-i : tie.Need-overflow_add-i invariant-loop decreases-loop
+overflow_add-i c = search rules
 
-entry-requires : tie.Need-entry-requires invariant-loop decreases-loop
-entry-requires c κs = search rules
+entry-x-requires : tie.Need-entry-x-requires invariant-loop decreases-loop
+entry-x-requires c κs = search rules
 
-element-copy-out-if1 : tie.Need-element-copy-out-if1 invariant-loop decreases-loop
-element-copy-out-if1 c = omega (arith, c.before.before.before.requires.1 c.before.before.loop.i (omega arith))
+bounds-mask-x : tie.Need-bounds-mask-x invariant-loop decreases-loop
+bounds-mask-x c = omega (arith, c.before.before.before.requires.1 c.before.before.loop-i.i (omega arith))
 
-mul-out : tie.Need-overflow-mul-out invariant-loop decreases-loop
-mul-out c = search rules
+offset_bounds-order-k : tie.Need-offset_bounds-order-k invariant-loop decreases-loop
+offset_bounds-order-k c = search rules
 
-element-copy-out-out : tie.Need-element-copy-out-out invariant-loop decreases-loop
-element-copy-out-out c = search rules
+bounds-order-k : tie.Need-bounds-order-k invariant-loop decreases-loop
+bounds-order-k c = search rules
 
-abbrev test : tie.At-loop invariant-loop decreases-loop → ℕ → Bool
+abbrev test : tie.At-loop-i invariant-loop decreases-loop → ℕ → Bool
 test a = has a.before.args.mask.now a.before.args.v
 
-room : (c : tie.Then1 invariant-loop decreases-loop) → c.before.before.before.before.loop.n < places_most
+room : (c : tie.Then-mask-x invariant-loop decreases-loop) → c.before.before.before.before.loop-i.n < places_most
 unfolding has
 room c =
     let a = c.before.before.before.before in
-    let e = c.before.before.entry in
-    omega (arith, a.loop.invariant.1, a.before.requires.2, sift_room (test a) a.before.args.order.now a.loop.i a.before.args.listed e.result c.before.before.before.loop-test.true e.ensures (eq-eqb _ _ c.if1.true))
+    let e = c.before.before.entry-x in
+    omega (arith, a.loop-i.invariant.1, a.before.requires.2, sift_room (test a) a.before.args.order.now a.loop-i.i a.before.args.listed e.result c.before.before.before.loop-i-test.true e.ensures (eq-eqb _ _ c.if-mask-x.true))
 
-mul-out-2 : tie.Need-overflow-mul-out-2 invariant-loop decreases-loop
-mul-out-2 c = omega (arith, room c.before)
+offset_bounds-out-n : tie.Need-offset_bounds-out-n invariant-loop decreases-loop
+offset_bounds-out-n c = omega (arith, room c.before)
 
-element-write-out : tie.Need-element-write-out invariant-loop decreases-loop
-element-write-out c = room c.before
+bounds-out-n : tie.Need-bounds-out-n invariant-loop decreases-loop
+bounds-out-n c = room c.before
 
-add-n : tie.Need-overflow-add-n invariant-loop decreases-loop
-add-n c = omega (arith, room c.before)
+overflow_add-n : tie.Need-overflow_add-n invariant-loop decreases-loop
+overflow_add-n c = omega (arith, room c.before)
 
-loop-less : tie.Need-loop-smaller invariant-loop decreases-loop
-loop-less c = search rules
+loop-i-smaller-then-mask-x : tie.Need-loop-i-smaller-then-mask-x invariant-loop decreases-loop
+loop-i-smaller-then-mask-x c = search rules
 
-loop-again : tie.Need-loop-preserved invariant-loop decreases-loop
+loop-i-preserved-then-mask-x : tie.Need-loop-i-preserved-then-mask-x invariant-loop decreases-loop
 unfolding has
-loop-again c =
+loop-i-preserved-then-mask-x c =
     let a = c.before.before.before.before.before in
-    let s = sift_hit (test a) _ _ _ _ _ _ _ a.loop.invariant.1 a.loop.invariant.2 c.before.before.before.entry.ensures (eq-eqb _ _ c.before.if1.true) in
+    let s = sift_hit (test a) _ _ _ _ _ _ _ a.loop-i.invariant.1 a.loop-i.invariant.2 c.before.before.before.entry-x.ensures (eq-eqb _ _ c.before.if-mask-x.true) in
     (omega arith, s.0, s.1)
 
-loop-less-2 : tie.Need-loop-smaller-2 invariant-loop decreases-loop
-loop-less-2 c = search rules
+loop-i-smaller : tie.Need-loop-i-smaller invariant-loop decreases-loop
+loop-i-smaller c = search rules
 
-loop-again-2 : tie.Need-loop-preserved-2 invariant-loop decreases-loop
+loop-i-preserved : tie.Need-loop-i-preserved invariant-loop decreases-loop
 unfolding has
-loop-again-2 c =
+loop-i-preserved c =
     let a = c.before.before.before.before in
-    let s = sift_miss (test a) _ _ _ _ _ _ _ a.loop.invariant.1 a.loop.invariant.2 c.before.before.entry.ensures (ne_eqb _ _ c.if1.false) in
+    let s = sift_miss (test a) _ _ _ _ _ _ _ a.loop-i.invariant.1 a.loop-i.invariant.2 c.before.before.entry-x.ensures (ne_eqb _ _ c.if-mask-x.false) in
     (omega arith, s.0, s.1)
 
 returns : tie.Need-returns invariant-loop decreases-loop
 returns c =
-    let z : c.before.loop.i ≡ c.before.before.args.listed = omega arith in
-    (rw z at c.before.loop.invariant.1, rw z at c.before.loop.invariant.2)
+    let z : c.before.loop-i.i ≡ c.before.before.args.listed = omega arith in
+    (rw z at c.before.loop-i.invariant.1, rw z at c.before.loop-i.invariant.2)
 
 pub sifted_spec : {M : Type 1} → statement M
 sifted_spec =
@@ -87,17 +87,17 @@ sifted_spec =
     (tie.spec
     invariant-loop
     decreases-loop
-    loop-holds
-    add-i
-    entry-requires
-    element-copy-out-if1
-    mul-out
-    element-copy-out-out
-    mul-out-2
-    element-write-out
-    add-n
-    loop-less
-    loop-again
-    loop-less-2
-    loop-again-2
+    loop-i-init
+    overflow_add-i
+    entry-x-requires
+    bounds-mask-x
+    offset_bounds-order-k
+    bounds-order-k
+    offset_bounds-out-n
+    bounds-out-n
+    overflow_add-n
+    loop-i-smaller-then-mask-x
+    loop-i-preserved-then-mask-x
+    loop-i-smaller
+    loop-i-preserved
     returns)

@@ -9,33 +9,33 @@ use Rattle.columns.specs.Tree.{open_child}
 use Rattle.columns.proofs.tree.first_open_child.Statement.{statement}
 use Rattle.columns.proofs.tree.first_open_child.Tie as tie
 
-abbrev invariant-loop : tie.invariant-loop
+abbrev invariant-loop : tie.invariant-loop-i
 invariant-loop parent state rows t i₀ i = (i ≤ rows) × (any_below i (open_child parent state t) ≡ false)
 
-abbrev decreases-loop : tie.decreases-loop
+abbrev decreases-loop : tie.decreases-loop-i
 decreases-loop parent state rows t i₀ i = rows - i
 
-loop-holds : tie.Need-loop-init invariant-loop decreases-loop
-loop-holds c = (omega arith, any_start _)
+loop-i-init : tie.Need-loop-i-init invariant-loop decreases-loop
+loop-i-init c = (omega arith, any_start _)
 
-is-open-child-requires : tie.Need-is-open-child-requires invariant-loop decreases-loop
-is-open-child-requires c κs = search rules
+is_open_child-requires : tie.Need-is_open_child-requires invariant-loop decreases-loop
+is_open_child-requires c κs = search rules
+
+returns-then-is_open_child : tie.Need-returns-then-is_open_child invariant-loop decreases-loop
+returns-then-is_open_child c =
+    sym (first_here _ _ _ c.before.before.loop-i-test.true c.before.before.before.loop-i.invariant.1 (sym c.before.is_open_child.ensures ∙ c.if-is_open_child.true))
+
+overflow_add-i : tie.Need-overflow_add-i invariant-loop decreases-loop
+overflow_add-i c = search rules
+
+loop-i-smaller : tie.Need-loop-i-smaller invariant-loop decreases-loop
+loop-i-smaller c = search rules
+
+loop-i-preserved : tie.Need-loop-i-preserved invariant-loop decreases-loop
+loop-i-preserved c = (omega arith, any_none _ _ c.before.before.before.loop-i.invariant.1 (sym c.before.is_open_child.ensures ∙ c.if-is_open_child.false))
 
 returns : tie.Need-returns invariant-loop decreases-loop
-returns c =
-    sym (first_here _ _ _ c.before.before.loop-test.true c.before.before.before.loop.invariant.1 (sym c.before.is-open-child.ensures ∙ c.if1.true))
-
-add-i : tie.Need-overflow-add-i invariant-loop decreases-loop
-add-i c = search rules
-
-loop-less : tie.Need-loop-smaller invariant-loop decreases-loop
-loop-less c = search rules
-
-loop-again : tie.Need-loop-preserved invariant-loop decreases-loop
-loop-again c = (omega arith, any_none _ _ c.before.before.before.loop.invariant.1 (sym c.before.is-open-child.ensures ∙ c.if1.false))
-
-returns-2 : tie.Need-returns-2 invariant-loop decreases-loop
-returns-2 c = sym (first_none _ _ (any_end _ _ _ c.before.loop.invariant.1 c.before.loop.invariant.0 c.loop-test.false))
+returns c = sym (first_none _ _ (any_end _ _ _ c.before.loop-i.invariant.1 c.before.loop-i.invariant.0 c.loop-i-test.false))
 
 pub first_open_child_spec : {M : Type 1} → statement M
 first_open_child_spec =
@@ -43,10 +43,10 @@ first_open_child_spec =
     (tie.spec
     invariant-loop
     decreases-loop
-    loop-holds
-    is-open-child-requires
-    returns
-    add-i
-    loop-less
-    loop-again
-    returns-2)
+    loop-i-init
+    is_open_child-requires
+    returns-then-is_open_child
+    overflow_add-i
+    loop-i-smaller
+    loop-i-preserved
+    returns)

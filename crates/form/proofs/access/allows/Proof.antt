@@ -9,21 +9,21 @@ use Rattle.form.proofs.access.allows.Tie as tie
 recall-requires : tie.Need-recall-requires
 recall-requires c κs = search rules
 
-enum_told : tie.Need-enum-told
-enum_told c = search rules
+enum_told-1 : tie.Need-enum_told-1
+enum_told-1 c = search rules
 
-enum-told-2 : tie.Need-enum-told-2
-enum-told-2 c = search rules
+enum_told-in-Unshaped : tie.Need-enum_told-in-Unshaped
+enum_told-in-Unshaped c = search rules
 
-returns : tie.Need-returns
-returns c =
+returns-in-Given : tie.Need-returns-in-Given
+returns-in-Given c =
     let a = c.before.before.before.args in
-    ap given (sym c.enum_told.given.1 ∙ c.before.before.recall.ensures ∙ ap (recall_of a.operation a.a) (to_z-of_z c.before.before.before.ranges.b))
+    ap given (sym c.enum_told-1.given.1 ∙ c.before.before.recall.ensures ∙ ap (recall_of a.operation a.a) (to_z-of_z c.before.before.before.ranges.b))
 
-returns-2 : tie.Need-returns-2
-returns-2 c =
+returns-in-Unshaped : tie.Need-returns-in-Unshaped
+returns-in-Unshaped c =
     let a = c.before.before.before.args in
-    ap given (sym c.enum-told2.given.1 ∙ c.before.before.recall.ensures ∙ ap (recall_of a.operation a.a) (to_z-of_z c.before.before.before.ranges.b))
+    ap given (sym c.enum_told-in-Unshaped-1.given.1 ∙ c.before.before.recall.ensures ∙ ap (recall_of a.operation a.a) (to_z-of_z c.before.before.before.ranges.b))
 
 pub allows_spec : {M : Type 1} → statement M
-allows_spec = tie.close (tie.spec recall-requires enum_told enum-told-2 returns returns-2)
+allows_spec = tie.close (tie.spec recall-requires enum_told-1 enum_told-in-Unshaped returns-in-Given returns-in-Unshaped)

@@ -5,20 +5,20 @@ use Rattle.form.proofs.Zeros.{one_zero, and_zero}
 use Rattle.form.proofs.access.blank_from.Statement.{statement}
 use Rattle.form.proofs.access.blank_from.Tie as tie
 
-zero8-from-requires : tie.Need-zero8-from-requires
-zero8-from-requires c κs = search rules
+zero8_from-requires : tie.Need-zero8_from-requires
+zero8_from-requires c κs = search rules
 
-zero8-from-requires-2 : tie.Need-zero8-from-requires-2
-zero8-from-requires-2 c κs = search rules
+zero8_from-requires-2 : tie.Need-zero8_from-requires-2
+zero8_from-requires-2 c κs = search rules
 
-zero64-from-requires : tie.Need-zero64-from-requires
-zero64-from-requires c κs = search rules
+zero64_from-requires : tie.Need-zero64_from-requires
+zero64_from-requires c κs = search rules
 
-zero8-from-requires-3 : tie.Need-zero8-from-requires-3
-zero8-from-requires-3 c κs = search rules
+zero8_from-requires-3 : tie.Need-zero8_from-requires-3
+zero8_from-requires-3 c κs = search rules
 
-zero64-from-requires-2 : tie.Need-zero64-from-requires-2
-zero64-from-requires-2 c κs = search rules
+zero64_from-requires-2 : tie.Need-zero64_from-requires-2
+zero64_from-requires-2 c κs = search rules
 
 in_turn : (a b c d e : Bool) → (a && b && c && d && e) ≡ (a && (b && (c && (d && e))))
 in_turn a b c d e = simp and_assoc
@@ -29,21 +29,21 @@ returns c =
     let argument = outcome.before.before in
     let operation = argument.before.before in
     let object = operation.before.before in
-    in_turn object.zero8-from.result operation.zero8-from2.result argument.zero64-from.result outcome.zero8-from3.result
-    c.zero64-from2.result
-    ∙ and_zero _ _ _ _ object.before.zero8-from-arg.given.0 _ object.zero8-from.ensures _ _
-    (and_zero _ _ _ _ operation.before.zero8-from-arg2.given.0 _ operation.zero8-from2.ensures _ _
-    (and_zero _ _ _ _ argument.before.zero64-from-arg.given.0 _ argument.zero64-from.ensures _ _
-    (and_zero _ _ _ _ outcome.before.zero8-from-arg3.given.0 _ outcome.zero8-from3.ensures _ _
-    (one_zero _ _ _ _ c.before.zero64-from-arg2.given.0 _ c.zero64-from2.ensures))))
+    in_turn object.zero8_from.result operation.zero8_from-2.result argument.zero64_from.result outcome.zero8_from-3.result
+    c.zero64_from-2.result
+    ∙ and_zero _ _ _ _ object.before.zero8_from-arg-1.given.0 _ object.zero8_from.ensures _ _
+    (and_zero _ _ _ _ operation.before.zero8_from-arg-2-1.given.0 _ operation.zero8_from-2.ensures _ _
+    (and_zero _ _ _ _ argument.before.zero64_from-arg-1.given.0 _ argument.zero64_from.ensures _ _
+    (and_zero _ _ _ _ outcome.before.zero8_from-arg-3-1.given.0 _ outcome.zero8_from-3.ensures _ _
+    (one_zero _ _ _ _ c.before.zero64_from-arg-2-1.given.0 _ c.zero64_from-2.ensures))))
 
 pub blank_from_spec : {M : Type 1} → statement M
 blank_from_spec =
     tie.close
     (tie.spec
-    zero8-from-requires
-    zero8-from-requires-2
-    zero64-from-requires
-    zero8-from-requires-3
-    zero64-from-requires-2
+    zero8_from-requires
+    zero8_from-requires-2
+    zero64_from-requires
+    zero8_from-requires-3
+    zero64_from-requires-2
     returns)

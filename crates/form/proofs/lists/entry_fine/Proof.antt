@@ -4,34 +4,34 @@ use borrow.Author.Rules.{rules}
 use Rattle.form.proofs.lists.entry_fine.Statement.{statement}
 use Rattle.form.proofs.lists.entry_fine.Tie as tie
 
-entry-requires : tie.Need-entry-requires
-entry-requires c κs = search rules
+entry-x-requires : tie.Need-entry-x-requires
+entry-x-requires c κs = search rules
 
-returns : tie.Need-returns
-returns c =
-    let e = c.before.entry.ensures in
-    rw (lt-ltb _ _ c.before.before.requires.2, ← e, c.if1.true)
+returns-then-x-eq0 : tie.Need-returns-then-x-eq0
+returns-then-x-eq0 c =
+    let e = c.before.entry-x.ensures in
+    rw (lt-ltb _ _ c.before.before.requires.2, ← e, c.if-x-eq0.true)
 
-returns-2 : tie.Need-returns-2
-returns-2 c =
+returns-then-count-x : tie.Need-returns-then-count-x
+returns-then-count-x c =
     let read = c.before.before in
-    let e = read.entry.ensures in
-    let some = lt-ltb 0 read.entry.result (omega arith) in
-    rw (lt-ltb _ _ read.before.requires.2, ← e, some, lt-leb _ _ c.if2.true)
+    let e = read.entry-x.ensures in
+    let some = lt-ltb 0 read.entry-x.result (omega arith) in
+    rw (lt-ltb _ _ read.before.requires.2, ← e, some, lt-leb _ _ c.if-count-x.true)
 
 at16-requires : tie.Need-at16-requires
 at16-requires c κs = search rules
 
-add-result : tie.Need-overflow-add-result
-add-result c = search rules
+overflow_add-result : tie.Need-overflow_add-result
+overflow_add-result c = search rules
 
-returns-3 : tie.Need-returns-3
-returns-3 c =
+returns : tie.Need-returns
+returns c =
     let read = c.before.before.before in
-    let e = read.entry.ensures in
-    let some = lt-ltb 0 read.entry.result (omega arith) in
-    rw (lt-ltb _ _ read.before.requires.2, ← e, some, le-leb _ _ c.before.if2.false, c.at16.ensures)
+    let e = read.entry-x.ensures in
+    let some = lt-ltb 0 read.entry-x.result (omega arith) in
+    rw (lt-ltb _ _ read.before.requires.2, ← e, some, le-leb _ _ c.before.if-count-x.false, c.at16.ensures)
 
 pub entry_fine_spec : {M : Type 1} → statement M
 entry_fine_spec =
-    tie.close (tie.spec entry-requires returns returns-2 at16-requires add-result returns-3)
+    tie.close (tie.spec entry-x-requires returns-then-x-eq0 returns-then-count-x at16-requires overflow_add-result returns)

@@ -12,37 +12,37 @@ use Rattle.form.proofs.Climbed.{known_start}
 use Rattle.form.proofs.lists.rows_fine.Statement.{statement}
 use Rattle.form.proofs.lists.rows_fine.Tie as tie
 
-abbrev invariant-loop : tie.invariant-loop
+abbrev invariant-loop : tie.invariant-loop-k
 invariant-loop parent outcome listed order holder place rows above₀ k₀ above k =
     (k ≤ rows) × (all_below k (list_row parent outcome listed order holder place) ≡ true) × Known parent above
 
-abbrev decreases-loop : tie.decreases-loop
+abbrev decreases-loop : tie.decreases-loop-k
 decreases-loop parent outcome listed order holder place rows above₀ k₀ above k = rows - k
 
-loop-holds : tie.Need-loop-init invariant-loop decreases-loop
-loop-holds c = (omega arith, all_start _, known_start _ c.requires.1)
+loop-k-init : tie.Need-loop-k-init invariant-loop decreases-loop
+loop-k-init c = (omega arith, all_start _, known_start _ c.requires.1)
 
-row-fine-requires : tie.Need-row-fine-requires invariant-loop decreases-loop
-row-fine-requires c κs = search rules
+row_fine-requires : tie.Need-row_fine-requires invariant-loop decreases-loop
+row_fine-requires c κs = search rules
 
-returns : tie.Need-returns invariant-loop decreases-loop
-returns c = sym (all_broken _ _ _ c.before.before.before.loop-test.true (sym c.before.row_fine.ensures.0 ∙ not-true _ c.if1.true))
+returns-then-not-row_fine : tie.Need-returns-then-not-row_fine invariant-loop decreases-loop
+returns-then-not-row_fine c = sym (all_broken _ _ _ c.before.before.before.loop-k-test.true (sym c.before.row_fine.ensures.0 ∙ not-true _ c.if-not-row_fine.true-raw))
 
-add-k : tie.Need-overflow-add-k invariant-loop decreases-loop
-add-k c = search rules
+overflow_add-k : tie.Need-overflow_add-k invariant-loop decreases-loop
+overflow_add-k c = search rules
 
-loop-less : tie.Need-loop-smaller invariant-loop decreases-loop
-loop-less c = search rules
+loop-k-smaller : tie.Need-loop-k-smaller invariant-loop decreases-loop
+loop-k-smaller c = search rules
 
-loop-again : tie.Need-loop-preserved invariant-loop decreases-loop
-loop-again c = (
+loop-k-preserved : tie.Need-loop-k-preserved invariant-loop decreases-loop
+loop-k-preserved c = (
   omega arith,
-  all_more _ _ c.before.before.before.before.loop.invariant.1 (sym c.before.row_fine.ensures.0 ∙ not-false _ c.if1.false),
-  c.before.row_fine.ensures.1 (not-false _ c.if1.false),
+  all_more _ _ c.before.before.before.before.loop-k.invariant.1 (sym c.before.row_fine.ensures.0 ∙ not-false _ c.if-not-row_fine.false-raw),
+  c.before.row_fine.ensures.1 (not-false _ c.if-not-row_fine.false-raw),
 )
 
-returns-2 : tie.Need-returns-2 invariant-loop decreases-loop
-returns-2 c = sym (all_end _ _ _ c.before.loop.invariant.1 c.before.loop.invariant.0 c.loop-test.false)
+returns : tie.Need-returns invariant-loop decreases-loop
+returns c = sym (all_end _ _ _ c.before.loop-k.invariant.1 c.before.loop-k.invariant.0 c.loop-k-test.false)
 
 pub rows_fine_spec : {M : Type 1} → statement M
 rows_fine_spec =
@@ -50,10 +50,10 @@ rows_fine_spec =
     (tie.spec
     invariant-loop
     decreases-loop
-    loop-holds
-    row-fine-requires
-    returns
-    add-k
-    loop-less
-    loop-again
-    returns-2)
+    loop-k-init
+    row_fine-requires
+    returns-then-not-row_fine
+    overflow_add-k
+    loop-k-smaller
+    loop-k-preserved
+    returns)

@@ -15,36 +15,36 @@ use Rattle.form.proofs.Split.{objects_split}
 use Rattle.form.proofs.objects.objects_fine.Statement.{statement}
 use Rattle.form.proofs.objects.objects_fine.Tie as tie
 
-abbrev invariant-loop : tie.invariant-loop
+abbrev invariant-loop : tie.invariant-loop-o
 invariant-loop objects kind opening o₀ o = (o ≤ objects) × (all_below o (object_fine objects kind opening) ≡ true)
 
-abbrev decreases-loop : tie.decreases-loop
+abbrev decreases-loop : tie.decreases-loop-o
 decreases-loop objects kind opening o₀ o = objects - o
 
-returns : tie.Need-returns invariant-loop decreases-loop
+returns-then-objects-gt-OBJECTS : tie.Need-returns-then-objects-gt-OBJECTS invariant-loop decreases-loop
 unfolding objects_fine
-returns c = rw (lt-leb _ _ c.if1.true)
+returns-then-objects-gt-OBJECTS c = rw (lt-leb _ _ c.if-objects-gt-OBJECTS.true)
 
-unopened-from-requires : tie.Need-unopened-from-requires invariant-loop decreases-loop
-unopened-from-requires c κs = search rules
+unopened_from-requires : tie.Need-unopened_from-requires invariant-loop decreases-loop
+unopened_from-requires c κs = search rules
 
-returns-2 : tie.Need-returns-2 invariant-loop decreases-loop
+returns-then-not-unopened_from : tie.Need-returns-then-not-unopened_from invariant-loop decreases-loop
 unfolding objects_fine
-returns-2 c =
-    let few = c.before.before.if1.false in
-    rw (le-leb _ _ few, objects_split _ _ _ few, sym c.before.unopened-from.ensures ∙ not-true _ c.if2.true)
+returns-then-not-unopened_from c =
+    let few = c.before.before.if-objects-gt-OBJECTS.false in
+    rw (le-leb _ _ few, objects_split _ _ _ few, sym c.before.unopened_from.ensures ∙ not-true _ c.if-not-unopened_from.true-raw)
 
-loop-holds : tie.Need-loop-init invariant-loop decreases-loop
-loop-holds c = (omega arith, all_start _)
+loop-o-init : tie.Need-loop-o-init invariant-loop decreases-loop
+loop-o-init c = (omega arith, all_start _)
 
-element-copy-out-opens : tie.Need-element-copy-out-opens invariant-loop decreases-loop
-element-copy-out-opens c = search rules
+bounds-kind-o : tie.Need-bounds-kind-o invariant-loop decreases-loop
+bounds-kind-o c = search rules
 
-mul-opens : tie.Need-overflow-mul-opens invariant-loop decreases-loop
-mul-opens c = search rules
+offset_bounds-opening-o : tie.Need-offset_bounds-opening-o invariant-loop decreases-loop
+offset_bounds-opening-o c = search rules
 
-element-copy-out-opens-2 : tie.Need-element-copy-out-opens-2 invariant-loop decreases-loop
-element-copy-out-opens-2 c = search rules
+bounds-opening-o : tie.Need-bounds-opening-o invariant-loop decreases-loop
+bounds-opening-o c = search rules
 
 opens-requires : tie.Need-opens-requires invariant-loop decreases-loop
 opens-requires c κs = search rules
@@ -52,42 +52,42 @@ opens-requires c κs = search rules
 object : (c : tie.After-opens invariant-loop decreases-loop)
     → let turn = c.before.before.before.before in
     let a = turn.before.before.before.before.args in
-    c.opens.result ≡ object_fine a.objects a.kind.now a.opening.now turn.loop.o
+    c.opens.result ≡ object_fine a.objects a.kind.now a.opening.now turn.loop-o.o
 object c =
     let turn = c.before.before.before.before in
     let a = turn.before.before.before.before.args in
-    let s : SFits w64 (at_z a.opening.now turn.loop.o) = record { sfits = c.before.opens-arg2.given } in
-    rw (lt-ltb _ _ c.before.before.before.loop-test.true, ← to_z-of_z s) c.opens.ensures
+    let s : SFits w64 (at_z a.opening.now turn.loop-o.o) = record { sfits = c.before.opens-arg-in-loop-o-1.given } in
+    rw (lt-ltb _ _ c.before.before.before.loop-o-test.true, ← to_z-of_z s) c.opens.ensures
 
-returns-3 : tie.Need-returns-3 invariant-loop decreases-loop
+returns-then-not-opens : tie.Need-returns-then-not-opens invariant-loop decreases-loop
 unfolding objects_fine
-returns-3 c =
+returns-then-not-opens c =
     let test = c.before.before.before.before in
     let scanned = test.before.before in
-    let few = scanned.before.before.if1.false in
-    let rest = sym scanned.before.unopened-from.ensures ∙ not-false _ scanned.if2.false in
+    let few = scanned.before.before.if-objects-gt-OBJECTS.false in
+    let rest = sym scanned.before.unopened_from.ensures ∙ not-false _ scanned.if-not-unopened_from.false-raw in
     rw (le-leb _ _ few, objects_split _ _ _ few, rest)
-    (sym (all_broken _ _ _ test.loop-test.true (sym (object c.before) ∙ not-true _ c.if3.true)))
+    (sym (all_broken _ _ _ test.loop-o-test.true (sym (object c.before) ∙ not-true _ c.if-not-opens.true-raw)))
 
-add-o : tie.Need-overflow-add-o invariant-loop decreases-loop
-add-o c = search rules
+overflow_add-o : tie.Need-overflow_add-o invariant-loop decreases-loop
+overflow_add-o c = search rules
 
-loop-less : tie.Need-loop-smaller invariant-loop decreases-loop
-loop-less c = search rules
+loop-o-smaller : tie.Need-loop-o-smaller invariant-loop decreases-loop
+loop-o-smaller c = search rules
 
-loop-again : tie.Need-loop-preserved invariant-loop decreases-loop
-loop-again c =
-    let passed = sym (object c.before) ∙ not-false _ c.if3.false in
-    (omega arith, all_more _ _ c.before.before.before.before.before.loop.invariant.1 passed)
+loop-o-preserved : tie.Need-loop-o-preserved invariant-loop decreases-loop
+loop-o-preserved c =
+    let passed = sym (object c.before) ∙ not-false _ c.if-not-opens.false-raw in
+    (omega arith, all_more _ _ c.before.before.before.before.before.loop-o.invariant.1 passed)
 
-returns-4 : tie.Need-returns-4 invariant-loop decreases-loop
+returns : tie.Need-returns invariant-loop decreases-loop
 unfolding objects_fine
-returns-4 c =
+returns c =
     let scanned = c.before.before in
-    let few = scanned.before.before.if1.false in
-    let rest = sym scanned.before.unopened-from.ensures ∙ not-false _ scanned.if2.false in
+    let few = scanned.before.before.if-objects-gt-OBJECTS.false in
+    let rest = sym scanned.before.unopened_from.ensures ∙ not-false _ scanned.if-not-unopened_from.false-raw in
     rw (le-leb _ _ few, objects_split _ _ _ few, rest)
-    (sym (all_end _ _ _ c.before.loop.invariant.1 c.before.loop.invariant.0 c.loop-test.false))
+    (sym (all_end _ _ _ c.before.loop-o.invariant.1 c.before.loop-o.invariant.0 c.loop-o-test.false))
 
 pub objects_fine_spec : {M : Type 1} → statement M
 objects_fine_spec =
@@ -95,16 +95,16 @@ objects_fine_spec =
     (tie.spec
     invariant-loop
     decreases-loop
-    returns
-    unopened-from-requires
-    returns-2
-    loop-holds
-    element-copy-out-opens
-    mul-opens
-    element-copy-out-opens-2
+    returns-then-objects-gt-OBJECTS
+    unopened_from-requires
+    returns-then-not-unopened_from
+    loop-o-init
+    bounds-kind-o
+    offset_bounds-opening-o
+    bounds-opening-o
     opens-requires
-    returns-3
-    add-o
-    loop-less
-    loop-again
-    returns-4)
+    returns-then-not-opens
+    overflow_add-o
+    loop-o-smaller
+    loop-o-preserved
+    returns)

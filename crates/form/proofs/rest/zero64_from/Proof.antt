@@ -14,36 +14,36 @@ use Rattle.form.proofs.Zeros.{bits_zero, zero_turn, zero_end}
 use Rattle.form.proofs.rest.zero64_from.Statement.{statement}
 use Rattle.form.proofs.rest.zero64_from.Tie as tie
 
-abbrev invariant-loop : tie.invariant-loop
+abbrev invariant-loop : tie.invariant-loop-k
 invariant-loop column «from» any₀ k₀ any k = («from» ≤ k) × (k ≤ length column) × (eqb any 0 ≡ all_from «from» k (λ k. is_zero (at_z column k)))
 
-abbrev decreases-loop : tie.decreases-loop
+abbrev decreases-loop : tie.decreases-loop-k
 decreases-loop column «from» any₀ k₀ any k = length column - k
 
-loop-holds : tie.Need-loop-init invariant-loop decreases-loop
-loop-holds c = (omega arith, omega arith, from_start _ _)
+loop-k-init : tie.Need-loop-k-init invariant-loop decreases-loop
+loop-k-init c = (omega arith, omega arith, from_start _ _)
 
-mul-any : tie.Need-overflow-mul-any invariant-loop decreases-loop
-mul-any c = search rules
+offset_bounds-column-k : tie.Need-offset_bounds-column-k invariant-loop decreases-loop
+offset_bounds-column-k c = search rules
 
-shared-slice-copy-out-any : tie.Need-shared-slice-copy-out-any invariant-loop decreases-loop
-shared-slice-copy-out-any c = search rules
+bounds-column-k : tie.Need-bounds-column-k invariant-loop decreases-loop
+bounds-column-k c = search rules
 
-add-k : tie.Need-overflow-add-k invariant-loop decreases-loop
-add-k c = search rules
+overflow_add-k : tie.Need-overflow_add-k invariant-loop decreases-loop
+overflow_add-k c = search rules
 
-loop-less : tie.Need-loop-smaller invariant-loop decreases-loop
-loop-less c = search rules
+loop-k-smaller : tie.Need-loop-k-smaller invariant-loop decreases-loop
+loop-k-smaller c = search rules
 
-loop-again : tie.Need-loop-preserved invariant-loop decreases-loop
-loop-again c =
+loop-k-preserved : tie.Need-loop-k-preserved invariant-loop decreases-loop
+loop-k-preserved c =
     let a = c.before.before in
-    let x = at_z a.before.args.column.now a.loop.k in
-    let zero = bits_zero x (record { sfits = c.any.given }) in
-    (omega arith, omega arith, zero_turn _ _ _ a.loop.any (of_z w64 x) a.loop.invariant.0 a.loop.invariant.2 zero)
+    let x = at_z a.before.args.column.now a.loop-k.k in
+    let zero = bits_zero x (record { sfits = c.any-1.given }) in
+    (omega arith, omega arith, zero_turn _ _ _ a.loop-k.any-1 (of_z w64 x) a.loop-k.invariant.0 a.loop-k.invariant.2 zero)
 
 returns : tie.Need-returns invariant-loop decreases-loop
-returns c = zero_end _ _ _ _ c.before.loop.any c.before.loop.invariant.2 c.before.loop.invariant.1 c.loop-test.false
+returns c = zero_end _ _ _ _ c.before.loop-k.any-1 c.before.loop-k.invariant.2 c.before.loop-k.invariant.1 c.loop-k-test.false
 
 pub zero64_from_spec : {M : Type 1} → statement M
-zero64_from_spec = tie.close (tie.spec invariant-loop decreases-loop loop-holds mul-any shared-slice-copy-out-any add-k loop-less loop-again returns)
+zero64_from_spec = tie.close (tie.spec invariant-loop decreases-loop loop-k-init offset_bounds-column-k bounds-column-k overflow_add-k loop-k-smaller loop-k-preserved returns)

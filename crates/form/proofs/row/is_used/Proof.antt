@@ -3,11 +3,11 @@ use borrow.Author.Tests.{lt-ltb}
 use Rattle.form.proofs.row.is_used.Statement.{statement}
 use Rattle.form.proofs.row.is_used.Tie as tie
 
-returns : tie.Need-returns
-returns c = rw c.if1.true
+returns-then-k-eq0 : tie.Need-returns-then-k-eq0
+returns-then-k-eq0 c = rw c.if-k-eq0.true
 
-returns-2 : tie.Need-returns-2
-returns-2 c = rw (lt-ltb 0 c.before.args.k (omega arith))
+returns : tie.Need-returns
+returns c = rw (lt-ltb 0 c.before.args.k (omega arith))
 
 pub is_used_spec : {M : Type 1} → statement M
-is_used_spec = tie.close (tie.spec returns returns-2)
+is_used_spec = tie.close (tie.spec returns-then-k-eq0 returns)

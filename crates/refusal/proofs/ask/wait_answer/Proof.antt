@@ -6,14 +6,14 @@ use borrow.Author.Rules.{rules}
 use Rattle.refusal.proofs.ask.wait_answer.Statement.{statement}
 use Rattle.refusal.proofs.ask.wait_answer.Tie as tie
 
-cast-t3 : tie.Need-overflow-cast-t3
-cast-t3 c = search rules
+overflow_cast-result : tie.Need-overflow_cast-result
+overflow_cast-result c = search rules
 
-cast-t4 : tie.Need-overflow-cast-t4
-cast-t4 c = search rules
+overflow_cast-result-2 : tie.Need-overflow_cast-result-2
+overflow_cast-result-2 c = search rules
 
 returns : tie.Need-returns
 returns c = let small : c.args.access < 2 ^ 63 = omega (arith, c.requires.1) in rw (to_z_pos w64 c.args.access small)
 
 pub wait_answer_spec : {M : Type 1} → statement M
-wait_answer_spec = tie.close (tie.spec cast-t3 cast-t4 returns)
+wait_answer_spec = tie.close (tie.spec overflow_cast-result overflow_cast-result-2 returns)

@@ -36,79 +36,79 @@ module _ (g : tie.Start) where
   abbrev whole : List Refusal
   whole = malformed ∷ missing ∷ under ∷ active ++ (asks ++ full)
 
-abbrev start : tie.Else2 → tie.Start
+abbrev start : tie.Else-count-p → tie.Start
 start e = e.before.before
 
-small : (e : tie.Else2) → (start e).args.p < rows_most
-small e = omega (arith, e.if2.false, ((start e).requires (not-false _ e.before.if1.false)).0)
+small : (e : tie.Else-count-p) → (start e).args.p < rows_most
+small e = omega (arith, e.if-count-p.false, ((start e).requires (not-false _ e.before.if-not-fine.false-raw)).0)
 
 -- past the tests of the parent's row, of its state, and of what the child asks
-abbrev row : tie.Else3 → tie.Else2
+abbrev row : tie.Else-operation-p-ne0 → tie.Else-count-p
 row f = f.before.before
 
-abbrev state : tie.Else4 → tie.Else3
+abbrev state : tie.Else-inactive-ne0 → tie.Else-operation-p-ne0
 state h = h.before.before
 
-abbrev asked : tie.Else5 → tie.Else4
+abbrev asked : tie.Else-unfit-ne0 → tie.Else-inactive-ne0
 asked k = k.before.before
 
-past_row : (f : tie.Else3) (c : ℕ) → let g = start (row f) in c ≡ first_code (active g ++ (asks g ++ full g)) → c ≡ first_code (whole g)
+past_row : (f : tie.Else-operation-p-ne0) (c : ℕ) → let g = start (row f) in c ≡ first_code (active g ++ (asks g ++ full g)) → c ≡ first_code (whole g)
 past_row f c q = let g = start (row f) in
-    code_next (malformed g) _ c (row f).before.if1.false (code_next (missing g) _ c (le-ltb _ _ (row f).if2.false) (code_next (under g) _ c (rw (eq-eqb _ 0 f.if3.false)) q))
+    code_next (malformed g) _ c (row f).before.if-not-fine.false-raw (code_next (missing g) _ c (le-ltb _ _ (row f).if-count-p.false) (code_next (under g) _ c (rw (eq-eqb _ 0 f.if-operation-p-ne0.false)) q))
 
-past-state : (h : tie.Else4) (c : ℕ) → let g = start (row (state h)) in c ≡ first_code (asks g ++ full g) → c ≡ first_code (whole g)
+past-state : (h : tie.Else-inactive-ne0) (c : ℕ) → let g = start (row (state h)) in c ≡ first_code (asks g ++ full g) → c ≡ first_code (whole g)
 past-state h c q = let g = start (row (state h)) in
-    past_row (state h) c (code_pass (asks g ++ full g) (active g) c (none_first (active g) refl (sym h.before.inactive-code.ensures ∙ h.if4.false)) q)
+    past_row (state h) c (code_pass (asks g ++ full g) (active g) c (none_first (active g) refl (sym h.before.inactive_code-inactive.ensures ∙ h.if-inactive-ne0.false)) q)
 
-past-asked : (k : tie.Else5) (c : ℕ) → let g = start (row (state (asked k))) in c ≡ first_code (full g) → c ≡ first_code (whole g)
+past-asked : (k : tie.Else-unfit-ne0) (c : ℕ) → let g = start (row (state (asked k))) in c ≡ first_code (full g) → c ≡ first_code (whole g)
 past-asked k c q = let g = start (row (state (asked k))) in
-    past-state (asked k) c (code_pass (full g) (asks g) c (none_first (asks g) refl (sym k.before.child-code.ensures ∙ k.if5.false)) q)
+    past-state (asked k) c (code_pass (full g) (asks g) c (none_first (asks g) refl (sym k.before.child_code-unfit.ensures ∙ k.if-unfit-ne0.false)) q)
 
-returns : tie.Need-returns
-returns c = code_here (malformed c.before) _ c.if1.true
+returns-then-not-fine : tie.Need-returns-then-not-fine
+returns-then-not-fine c = code_here (malformed c.before) _ c.if-not-fine.true-raw
 
-returns-2 : tie.Need-returns-2
-returns-2 c = let g = c.before.before in code_next (malformed g) _ _ c.before.if1.false (code_here (missing g) _ (lt-ltb _ _ c.if2.true))
+returns-then-count-p : tie.Need-returns-then-count-p
+returns-then-count-p c = let g = c.before.before in code_next (malformed g) _ _ c.before.if-not-fine.false-raw (code_here (missing g) _ (lt-ltb _ _ c.if-count-p.true))
 
-element-copy-out-if3 : tie.Need-element-copy-out-if3
-element-copy-out-if3 c = small c
+bounds-operation-p : tie.Need-bounds-operation-p
+bounds-operation-p c = small c
 
-returns-3 : tie.Need-returns-3
-returns-3 c = let e = c.before.before in
+returns-then-operation-p-ne0 : tie.Need-returns-then-operation-p-ne0
+returns-then-operation-p-ne0 c = let e = c.before.before in
     let g = start e in
-    code_next (malformed g) _ _ e.before.if1.false (code_next (missing g) _ _ (le-ltb _ _ e.if2.false) (code_here (under g) _ (rw (ne_eqb _ 0 c.if3.true))))
+    code_next (malformed g) _ _ e.before.if-not-fine.false-raw (code_next (missing g) _ _ (le-ltb _ _ e.if-count-p.false) (code_here (under g) _ (rw (ne_eqb _ 0 c.if-operation-p-ne0.true))))
 
-inactive-code-requires : tie.Need-inactive-code-requires
-inactive-code-requires c κs = let e = row c in (small e, ((start e).pre (not-false _ e.before.if1.left)).2)
+inactive_code-inactive-requires : tie.Need-inactive_code-inactive-requires
+inactive_code-inactive-requires c κs = let e = row c in (small e, ((start e).pre (not-false _ e.before.if-not-fine.left)).2)
 
-returns-4 : tie.Need-returns-4
-returns-4 c = let f = c.before.before in
-    let g = start (row f) in past_row f _ (code_stop (asks g ++ full g) (active g) _ c.before.inactive-code.ensures c.if4.true)
+returns-then-inactive-ne0 : tie.Need-returns-then-inactive-ne0
+returns-then-inactive-ne0 c = let f = c.before.before in
+    let g = start (row f) in past_row f _ (code_stop (asks g ++ full g) (active g) _ c.before.inactive_code-inactive.ensures c.if-inactive-ne0.true)
 
-child-code-requires : tie.Need-child-code-requires
-child-code-requires c κs = let e = row (state c) in ((start e).pre (not-false _ e.before.if1.left)).1
+child_code-unfit-requires : tie.Need-child_code-unfit-requires
+child_code-unfit-requires c κs = let e = row (state c) in ((start e).pre (not-false _ e.before.if-not-fine.left)).1
 
-returns-5 : tie.Need-returns-5
-returns-5 c = let h = c.before.before in
-    let g = start (row (state h)) in past-state h _ (code_stop (full g) (asks g) _ c.before.child-code.ensures c.if5.true)
+returns-then-unfit-ne0 : tie.Need-returns-then-unfit-ne0
+returns-then-unfit-ne0 c = let h = c.before.before in
+    let g = start (row (state h)) in past-state h _ (code_stop (full g) (asks g) _ c.before.child_code-unfit.ensures c.if-unfit-ne0.true)
 
-returns-6 : tie.Need-returns-6
-returns-6 c = past-asked c.before _ (code_here (refuse 8 _) [] (le-leb _ _ c.if6.true))
+returns-then-count-ge-COUNT_MOST : tie.Need-returns-then-count-ge-COUNT_MOST
+returns-then-count-ge-COUNT_MOST c = past-asked c.before _ (code_here (refuse 8 _) [] (le-leb _ _ c.if-count-ge-COUNT_MOST.true))
 
-returns-7 : tie.Need-returns-7
-returns-7 c = past-asked c.before _ (code_next (refuse 8 _) [] _ (lt-leb _ _ c.if6.false) code_none)
+returns-else-count-ge-COUNT_MOST : tie.Need-returns-else-count-ge-COUNT_MOST
+returns-else-count-ge-COUNT_MOST c = past-asked c.before _ (code_next (refuse 8 _) [] _ (lt-leb _ _ c.if-count-ge-COUNT_MOST.false) code_none)
 
 pub create_code_spec : {M : Type 1} → statement M
 create_code_spec =
     tie.close
     (tie.spec
-    returns
-    returns-2
-    element-copy-out-if3
-    returns-3
-    inactive-code-requires
-    returns-4
-    child-code-requires
-    returns-5
-    returns-6
-    returns-7)
+    returns-then-not-fine
+    returns-then-count-p
+    bounds-operation-p
+    returns-then-operation-p-ne0
+    inactive_code-inactive-requires
+    returns-then-inactive-ne0
+    child_code-unfit-requires
+    returns-then-unfit-ne0
+    returns-then-count-ge-COUNT_MOST
+    returns-else-count-ge-COUNT_MOST)

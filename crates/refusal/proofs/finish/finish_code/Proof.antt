@@ -21,37 +21,37 @@ module _ (g : tie.Start) where
   abbrev active : List Refusal
   active = inactive g.args.parent.now g.args.state.now g.args.t
 
-known : (e : tie.Else2) → NoneHolds (lost e.before.before.before)
-known e = none_first _ refl (sym e.before.unknown-code.ensures ∙ e.if2.false)
+known : (e : tie.Else-unknown-ne0) → NoneHolds (lost e.before.before.before)
+known e = none_first _ refl (sym e.before.unknown_code-unknown.ensures ∙ e.if-unknown-ne0.false)
 
-small : (e : tie.Else2) → e.before.before.before.args.t < rows_most
+small : (e : tie.Else-unknown-ne0) → e.before.before.before.args.t < rows_most
 small e = let d = e.before.before in
-    omega (arith, ltb-false d.before.args.count d.before.args.t (known e 0 (omega arith)), (d.before.requires (not-false _ d.if1.false)).0)
+    omega (arith, ltb-false d.before.args.count d.before.args.t (known e 0 (omega arith)), (d.before.requires (not-false _ d.if-not-fine.false-raw)).0)
+
+returns-then-not-fine : tie.Need-returns-then-not-fine
+returns-then-not-fine c = code_here (refuse 15 (not c.before.args.fine)) _ c.if-not-fine.true-raw
+
+unknown_code-unknown-requires : tie.Need-unknown_code-unknown-requires
+unknown_code-unknown-requires c κs = search rules
+
+returns-then-unknown-ne0 : tie.Need-returns-then-unknown-ne0
+returns-then-unknown-ne0 c = let g = c.before.before.before in
+    code_next (refuse 15 (not g.args.fine)) _ _ c.before.before.if-not-fine.false-raw (code_stop (active g) (lost g) _ c.before.unknown_code-unknown.ensures c.if-unknown-ne0.true)
+
+inactive_code-requires : tie.Need-inactive_code-requires
+inactive_code-requires c κs = (small c, (c.before.before.before.requires (not-false _ c.before.before.if-not-fine.false-raw)).1)
 
 returns : tie.Need-returns
-returns c = code_here (refuse 15 (not c.before.args.fine)) _ c.if1.true
-
-unknown-code-requires : tie.Need-unknown-code-requires
-unknown-code-requires c κs = search rules
-
-returns-2 : tie.Need-returns-2
-returns-2 c = let g = c.before.before.before in
-    code_next (refuse 15 (not g.args.fine)) _ _ c.before.before.if1.false (code_stop (active g) (lost g) _ c.before.unknown-code.ensures c.if2.true)
-
-inactive-code-requires : tie.Need-inactive-code-requires
-inactive-code-requires c κs = (small c, (c.before.before.before.requires (not-false _ c.before.before.if1.false)).1)
-
-returns-3 : tie.Need-returns-3
-returns-3 c = let e = c.before in
+returns c = let e = c.before in
     let g = e.before.before.before in
-    code_next (refuse 15 (not g.args.fine)) _ _ e.before.before.if1.false (code_pass (active g) (lost g) _ (known e) c.inactive-code.ensures)
+    code_next (refuse 15 (not g.args.fine)) _ _ e.before.before.if-not-fine.false-raw (code_pass (active g) (lost g) _ (known e) c.inactive_code.ensures)
 
 pub finish_code_spec : {M : Type 1} → statement M
 finish_code_spec =
     tie.close
     (tie.spec
-    returns
-    unknown-code-requires
-    returns-2
-    inactive-code-requires
-    returns-3)
+    returns-then-not-fine
+    unknown_code-unknown-requires
+    returns-then-unknown-ne0
+    inactive_code-requires
+    returns)

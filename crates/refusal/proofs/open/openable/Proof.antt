@@ -15,66 +15,66 @@ use Rattle.refusal.proofs.Opens.{uneven, none, many, each}
 use Rattle.refusal.proofs.open.openable.Statement.{statement}
 use Rattle.refusal.proofs.open.openable.Tie as tie
 
-abbrev invariant-loop : tie.invariant-loop
+abbrev invariant-loop : tie.invariant-loop-i
 invariant-loop kinds openings objects i₀ i = (i ≤ objects) × (all_below i (opens_at kinds openings) ≡ true)
 
-abbrev decreases-loop : tie.decreases-loop
+abbrev decreases-loop : tie.decreases-loop-i
 decreases-loop kinds openings objects i₀ i = objects - i
 
-returns : tie.Need-returns invariant-loop decreases-loop
-returns c = uneven c.before.before.args.kinds.now c.before.before.args.openings.now c.if1.true
+returns-then-objects-openings : tie.Need-returns-then-objects-openings invariant-loop decreases-loop
+returns-then-objects-openings c = uneven c.before.before.args.kinds.now c.before.before.args.openings.now c.if-objects-openings.true
 
-returns-2 : tie.Need-returns-2 invariant-loop decreases-loop
-returns-2 c = none c.before.before.before.args.kinds.now c.before.before.before.args.openings.now c.before.if1.false c.if2.true
+returns-then-objects-eq0 : tie.Need-returns-then-objects-eq0 invariant-loop decreases-loop
+returns-then-objects-eq0 c = none c.before.before.before.args.kinds.now c.before.before.before.args.openings.now c.before.if-objects-openings.false c.if-objects-eq0.true
 
-returns-3 : tie.Need-returns-3 invariant-loop decreases-loop
-returns-3 c = many c.before.before.before.before.args.kinds.now c.before.before.before.before.args.openings.now c.before.before.if1.false c.before.if2.false c.if3.true
+returns-then-objects-gt-OBJECTS : tie.Need-returns-then-objects-gt-OBJECTS invariant-loop decreases-loop
+returns-then-objects-gt-OBJECTS c = many c.before.before.before.before.args.kinds.now c.before.before.before.before.args.openings.now c.before.before.if-objects-openings.false c.before.if-objects-eq0.false c.if-objects-gt-OBJECTS.true
 
-loop-holds : tie.Need-loop-init invariant-loop decreases-loop
-loop-holds c = (omega arith, all_start _)
+loop-i-init : tie.Need-loop-i-init invariant-loop decreases-loop
+loop-i-init c = (omega arith, all_start _)
 
-shared-slice-read-opens : tie.Need-shared-slice-read-opens invariant-loop decreases-loop
-shared-slice-read-opens c = search rules
+bounds-kinds-i : tie.Need-bounds-kinds-i invariant-loop decreases-loop
+bounds-kinds-i c = search rules
 
-mul-opens : tie.Need-overflow-mul-opens invariant-loop decreases-loop
-mul-opens c = search rules
+offset_bounds-openings-i : tie.Need-offset_bounds-openings-i invariant-loop decreases-loop
+offset_bounds-openings-i c = search rules
 
-shared-slice-copy-out-opens : tie.Need-shared-slice-copy-out-opens invariant-loop decreases-loop
-shared-slice-copy-out-opens c = search rules
+bounds-openings-i : tie.Need-bounds-openings-i invariant-loop decreases-loop
+bounds-openings-i c = search rules
 
 opens-requires : tie.Need-opens-requires invariant-loop decreases-loop
 opens-requires c κs = search rules
 
 found : (c : tie.After-opens invariant-loop decreases-loop)
     → let g = c.before.before.before.before.before.before.before.before.before.args in
-    c.opens.result ≡ opens_at g.kinds.now g.openings.now c.before.before.before.before.loop.i
+    c.opens.result ≡ opens_at g.kinds.now g.openings.now c.before.before.before.before.loop-i.i
 found c =
     let g = c.before.before.before.before.before.before.before.before.before.args in
-    let i = c.before.before.before.before.loop.i in
+    let i = c.before.before.before.before.loop-i.i in
     c.opens.ensures
-    ∙ ap (λ z. opens (opened_of (kind_of (at g.kinds.now i)) z)) (to_z-of_z {w = w64} {z = at_z g.openings.now i} (record { sfits = c.before.opens-arg.given }))
+    ∙ ap (λ z. opens (opened_of (kind_of (at g.kinds.now i)) z)) (to_z-of_z {w = w64} {z = at_z g.openings.now i} (record { sfits = c.before.opens-arg-1.given }))
 
-returns-4 : tie.Need-returns-4 invariant-loop decreases-loop
-returns-4 c = let e = c.before in
+returns-then-not-opens : tie.Need-returns-then-not-opens invariant-loop decreases-loop
+returns-then-not-opens c = let e = c.before in
     let b = e.before.before.before.before.before in
     let g = b.before.before.before.before.args in
-    each g.kinds.now g.openings.now b.before.before.if1.false b.before.if2.false b.if3.false false (sym (all_broken _ _ e.before.before.before.before.loop.i e.before.before.before.loop-test.true (sym (found e) ∙ not-true _ c.if4.true)))
+    each g.kinds.now g.openings.now b.before.before.if-objects-openings.false b.before.if-objects-eq0.false b.if-objects-gt-OBJECTS.false false (sym (all_broken _ _ e.before.before.before.before.loop-i.i e.before.before.before.loop-i-test.true (sym (found e) ∙ not-true _ c.if-not-opens.true-raw)))
 
-add-i : tie.Need-overflow-add-i invariant-loop decreases-loop
-add-i c = search rules
+overflow_add-i : tie.Need-overflow_add-i invariant-loop decreases-loop
+overflow_add-i c = search rules
 
-loop-less : tie.Need-loop-smaller invariant-loop decreases-loop
-loop-less c = search rules
+loop-i-smaller : tie.Need-loop-i-smaller invariant-loop decreases-loop
+loop-i-smaller c = search rules
 
-loop-again : tie.Need-loop-preserved invariant-loop decreases-loop
-loop-again c = let e = c.before in
-    (omega arith, all_more _ _ e.before.before.before.before.loop.invariant.1 (sym (found e) ∙ not-false _ c.if4.false))
+loop-i-preserved : tie.Need-loop-i-preserved invariant-loop decreases-loop
+loop-i-preserved c = let e = c.before in
+    (omega arith, all_more _ _ e.before.before.before.before.loop-i.invariant.1 (sym (found e) ∙ not-false _ c.if-not-opens.false-raw))
 
-returns-5 : tie.Need-returns-5 invariant-loop decreases-loop
-returns-5 c = let a = c.before in
+returns : tie.Need-returns invariant-loop decreases-loop
+returns c = let a = c.before in
     let b = a.before in
     let g = b.before.before.before.before.args in
-    each g.kinds.now g.openings.now b.before.before.if1.false b.before.if2.false b.if3.false true (sym (all_end _ _ a.loop.i a.loop.invariant.1 a.loop.invariant.0 c.loop-test.false))
+    each g.kinds.now g.openings.now b.before.before.if-objects-openings.false b.before.if-objects-eq0.false b.if-objects-gt-OBJECTS.false true (sym (all_end _ _ a.loop-i.i a.loop-i.invariant.1 a.loop-i.invariant.0 c.loop-i-test.false))
 
 pub openable_spec : {M : Type 1} → statement M
 openable_spec =
@@ -82,16 +82,16 @@ openable_spec =
     (tie.spec
     invariant-loop
     decreases-loop
-    returns
-    returns-2
-    returns-3
-    loop-holds
-    shared-slice-read-opens
-    mul-opens
-    shared-slice-copy-out-opens
+    returns-then-objects-openings
+    returns-then-objects-eq0
+    returns-then-objects-gt-OBJECTS
+    loop-i-init
+    bounds-kinds-i
+    offset_bounds-openings-i
+    bounds-openings-i
     opens-requires
-    returns-4
-    add-i
-    loop-less
-    loop-again
-    returns-5)
+    returns-then-not-opens
+    overflow_add-i
+    loop-i-smaller
+    loop-i-preserved
+    returns)

@@ -6,17 +6,17 @@ use borrow.Author.Rules.{rules}
 use Rattle.replay.proofs.access.asked.Statement.{statement}
 use Rattle.replay.proofs.access.asked.Tie as tie
 
-element-copy-out-word8 : tie.Need-element-copy-out-word8
-element-copy-out-word8 c = search rules
+bounds-operation-x : tie.Need-bounds-operation-x
+bounds-operation-x c = search rules
 
 word8-requires : tie.Need-word8-requires
 word8-requires c κs = search rules
 
-mul-decode : tie.Need-overflow-mul-decode
-mul-decode c = search rules
+offset_bounds-argument-x : tie.Need-offset_bounds-argument-x
+offset_bounds-argument-x c = search rules
 
-element-copy-out-decode : tie.Need-element-copy-out-decode
-element-copy-out-decode c = search rules
+bounds-argument-x : tie.Need-bounds-argument-x
+bounds-argument-x c = search rules
 
 decode-requires : tie.Need-decode-requires
 decode-requires c κs = search rules
@@ -24,15 +24,15 @@ decode-requires c κs = search rules
 returns : tie.Need-returns
 returns c =
     let w = c.before.before in
-    c.decode.ensures ∙ ap₂ (decode_of w.before.before.args.kind) w.word8.ensures (to_z-of_z {w = w64} (record { sfits = c.before.decode-arg.given }))
+    c.decode.ensures ∙ ap₂ (decode_of w.before.before.args.kind) w.word8.ensures (to_z-of_z {w = w64} (record { sfits = c.before.decode-arg-1.given }))
 
 pub asked_spec : {M : Type 1} → statement M
 asked_spec =
     tie.close
     (tie.spec
-    element-copy-out-word8
+    bounds-operation-x
     word8-requires
-    mul-decode
-    element-copy-out-decode
+    offset_bounds-argument-x
+    bounds-argument-x
     decode-requires
     returns)

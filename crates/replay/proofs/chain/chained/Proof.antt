@@ -9,82 +9,82 @@ use Rattle.replay.proofs.Links.{Chained, chained_start, chained_skip, chained_pu
 use Rattle.replay.proofs.chain.chained.Statement.{statement}
 use Rattle.replay.proofs.chain.chained.Tie as tie
 
-abbrev invariant-loop : tie.invariant-loop
+abbrev invariant-loop : tie.invariant-loop-i
 invariant-loop order listed holder object o head₀ next₀ i₀ head next i = (i ≤ listed) × Chained order holder object listed o i head next
 
-abbrev decreases-loop : tie.decreases-loop
+abbrev decreases-loop : tie.decreases-loop-i
 decreases-loop order listed holder object o head₀ next₀ i₀ head next i = i
 
-loop-holds : tie.Need-loop-init invariant-loop decreases-loop
-loop-holds c = (omega arith, chained_start _ _ _ _ _ _ _ refl refl (λ u h. get_or-replicate 1025 u 0 0 h))
+loop-i-init : tie.Need-loop-i-init invariant-loop decreases-loop
+loop-i-init c = (omega arith, chained_start _ _ _ _ _ _ _ refl refl (λ u h. get_or-replicate 1025 u 0 0 h))
 
-sub-i : tie.Need-overflow-sub-i invariant-loop decreases-loop
-sub-i c = search rules
+overflow_sub-i : tie.Need-overflow_sub-i invariant-loop decreases-loop
+overflow_sub-i c = search rules
 
-entry-requires : tie.Need-entry-requires invariant-loop decreases-loop
-entry-requires c κs = omega (arith, c.before.before.requires.fit)
+entry-x-requires : tie.Need-entry-x-requires invariant-loop decreases-loop
+entry-x-requires c κs = omega (arith, c.before.before.requires.fit)
 
-row : (c : tie.After-entry invariant-loop decreases-loop) → c.entry.result < rows_most
-row c = let a = c.before.before in entry_row _ _ _ a.before.requires _ _ c.before.loop-test.true a.loop.invariant.0 c.entry.ensures
+row : (c : tie.After-entry-x invariant-loop decreases-loop) → c.entry-x.result < rows_most
+row c = let a = c.before.before in entry_row _ _ _ a.before.requires _ _ c.before.loop-i-test.true a.loop-i.invariant.0 c.entry-x.ensures
 
-holds : (c : tie.After-at16 invariant-loop decreases-loop) → c.at16.result < rows_most
+holds : (c : tie.After-at16-h invariant-loop decreases-loop) → c.at16-h.result < rows_most
 holds c =
     let e = c.before.before.before in
     let a = e.before.before in
-    holder_row _ _ _ a.before.requires _ _ e.before.loop-test.true a.loop.invariant.0 e.entry.ensures _ c.at16.ensures
+    holder_row _ _ _ a.before.requires _ _ e.before.loop-i-test.true a.loop-i.invariant.0 e.entry-x.ensures _ c.at16-h.ensures
 
-element-copy-out-if1 : tie.Need-element-copy-out-if1 invariant-loop decreases-loop
-element-copy-out-if1 c = row c
+bounds-object-x : tie.Need-bounds-object-x invariant-loop decreases-loop
+bounds-object-x c = row c
 
-at16-requires : tie.Need-at16-requires invariant-loop decreases-loop
-at16-requires c κs = omega (arith, row c.before.before)
+at16-h-requires : tie.Need-at16-h-requires invariant-loop decreases-loop
+at16-h-requires c κs = omega (arith, row c.before.before)
 
-mul_next : tie.Need-overflow-mul-next invariant-loop decreases-loop
-mul_next c = omega (arith, holds c)
+offset_bounds-head-h : tie.Need-offset_bounds-head-h invariant-loop decreases-loop
+offset_bounds-head-h c = omega (arith, holds c)
 
-array-read-next : tie.Need-array-read-next invariant-loop decreases-loop
-array-read-next c = holds c
+bounds-head-h : tie.Need-bounds-head-h invariant-loop decreases-loop
+bounds-head-h c = holds c
 
-mul-next-2 : tie.Need-overflow-mul-next-2 invariant-loop decreases-loop
-mul-next-2 c = omega (arith, row c.before.before.before)
+offset_bounds-next-x : tie.Need-offset_bounds-next-x invariant-loop decreases-loop
+offset_bounds-next-x c = omega (arith, row c.before.before.before)
 
-array-write-next : tie.Need-array-write-next invariant-loop decreases-loop
-array-write-next c = row c.before.before.before
+bounds-next-x : tie.Need-bounds-next-x invariant-loop decreases-loop
+bounds-next-x c = row c.before.before.before
 
-mul-head : tie.Need-overflow-mul-head invariant-loop decreases-loop
-mul-head c = search rules
+offset_bounds-order-i : tie.Need-offset_bounds-order-i invariant-loop decreases-loop
+offset_bounds-order-i c = search rules
 
-element-copy-out-head : tie.Need-element-copy-out-head invariant-loop decreases-loop
-element-copy-out-head c = let a = c.before.before.before.before.before in omega (arith, a.before.requires.fit)
+bounds-order-i : tie.Need-bounds-order-i invariant-loop decreases-loop
+bounds-order-i c = let a = c.before.before.before.before.before in omega (arith, a.before.requires.fit)
 
-mul-head-2 : tie.Need-overflow-mul-head-2 invariant-loop decreases-loop
-mul-head-2 c = omega (arith, holds c.before)
+offset_bounds-head-h-then-object-x : tie.Need-offset_bounds-head-h-then-object-x invariant-loop decreases-loop
+offset_bounds-head-h-then-object-x c = omega (arith, holds c.before)
 
-array-write-head : tie.Need-array-write-head invariant-loop decreases-loop
-array-write-head c = holds c.before
+bounds-head-h-then-object-x : tie.Need-bounds-head-h-then-object-x invariant-loop decreases-loop
+bounds-head-h-then-object-x c = holds c.before
 
-loop-less : tie.Need-loop-smaller invariant-loop decreases-loop
-loop-less c = search rules
+loop-i-smaller-then-object-x : tie.Need-loop-i-smaller-then-object-x invariant-loop decreases-loop
+loop-i-smaller-then-object-x c = search rules
 
-loop-again : tie.Need-loop-preserved invariant-loop decreases-loop
-loop-again c =
+loop-i-preserved-then-object-x : tie.Need-loop-i-preserved-then-object-x invariant-loop decreases-loop
+loop-i-preserved-then-object-x c =
     let h = c.before in
     let t = h.before in
     let e = t.before.before in
     let a = e.before.before in
-    (omega arith, chained_put _ _ _ _ _ _ _ e.before.loop-test.true a.loop.invariant.0 e.entry.ensures _ _ a.loop.invariant.1 a.before.requires _ t.if1.true h.at16.ensures)
+    (omega arith, chained_put _ _ _ _ _ _ _ e.before.loop-i-test.true a.loop-i.invariant.0 e.entry-x.ensures _ _ a.loop-i.invariant.1 a.before.requires _ t.if-object-x.true h.at16-h.ensures)
 
-loop-less-2 : tie.Need-loop-smaller-2 invariant-loop decreases-loop
-loop-less-2 c = search rules
+loop-i-smaller : tie.Need-loop-i-smaller invariant-loop decreases-loop
+loop-i-smaller c = search rules
 
-loop-again-2 : tie.Need-loop-preserved-2 invariant-loop decreases-loop
-loop-again-2 c =
+loop-i-preserved : tie.Need-loop-i-preserved invariant-loop decreases-loop
+loop-i-preserved c =
     let e = c.before.before in
     let a = e.before.before in
-    (omega arith, chained_skip _ _ _ _ _ _ _ e.before.loop-test.true a.loop.invariant.0 e.entry.ensures _ _ a.loop.invariant.1 c.if1.false)
+    (omega arith, chained_skip _ _ _ _ _ _ _ e.before.loop-i-test.true a.loop-i.invariant.0 e.entry-x.ensures _ _ a.loop-i.invariant.1 c.if-object-x.false)
 
 returns : tie.Need-returns invariant-loop decreases-loop
-returns c = chained_end _ _ _ _ _ _ _ _ (omega arith) c.before.loop.invariant.1
+returns c = chained_end _ _ _ _ _ _ _ _ (omega arith) c.before.loop-i.invariant.1
 
 pub chained_spec : {M : Type 1} → statement M
 chained_spec =
@@ -92,21 +92,21 @@ chained_spec =
     (tie.spec
     invariant-loop
     decreases-loop
-    loop-holds
-    sub-i
-    entry-requires
-    element-copy-out-if1
-    at16-requires
-    mul_next
-    array-read-next
-    mul-next-2
-    array-write-next
-    mul-head
-    element-copy-out-head
-    mul-head-2
-    array-write-head
-    loop-less
-    loop-again
-    loop-less-2
-    loop-again-2
+    loop-i-init
+    overflow_sub-i
+    entry-x-requires
+    bounds-object-x
+    at16-h-requires
+    offset_bounds-head-h
+    bounds-head-h
+    offset_bounds-next-x
+    bounds-next-x
+    offset_bounds-order-i
+    bounds-order-i
+    offset_bounds-head-h-then-object-x
+    bounds-head-h-then-object-x
+    loop-i-smaller-then-object-x
+    loop-i-preserved-then-object-x
+    loop-i-smaller
+    loop-i-preserved
     returns)

@@ -7,35 +7,35 @@ use Rattle.replay.proofs.Walks.{Walk, walk_next, walk_room, walk_less, walk_turn
 use Rattle.replay.proofs.chain.walked.Statement.{statement}
 use Rattle.replay.proofs.chain.walked.Tie as tie
 
-abbrev invariant-loop : tie.invariant-loop
+abbrev invariant-loop : tie.invariant-loop-x
 invariant-loop next operation argument kind first s₀ x₀ s x = Walk kind operation argument next (after_all (asked_of kind operation argument) (chain_of next first) s₀) x s
 
-abbrev decreases-loop : tie.decreases-loop
+abbrev decreases-loop : tie.decreases-loop-x
 decreases-loop next operation argument kind first s₀ x₀ s x = length (chain_of next x)
 
-loop-holds : tie.Need-loop-init invariant-loop decreases-loop
-loop-holds c = record { ends = c.requires.0; same = refl; room = c.requires.1 }
+loop-x-init : tie.Need-loop-x-init invariant-loop decreases-loop
+loop-x-init c = record { ends = c.requires.0; same = refl; room = c.requires.1 }
 
-applied-requires : tie.Need-applied-requires invariant-loop decreases-loop
-applied-requires c κs =
-    let w = c.before.loop.invariant in
-    ((walk_next _ _ _ _ _ _ _ w c.loop-test.true).small, walk_room _ _ _ _ _ _ _ w c.loop-test.true)
+applied-s-requires : tie.Need-applied-s-requires invariant-loop decreases-loop
+applied-s-requires c κs =
+    let w = c.before.loop-x.invariant in
+    ((walk_next _ _ _ _ _ _ _ w c.loop-x-test.true).small, walk_room _ _ _ _ _ _ _ w c.loop-x-test.true)
 
-at16-requires : tie.Need-at16-requires invariant-loop decreases-loop
-at16-requires c κs = (walk_next _ _ _ _ _ _ _ c.before.before.loop.invariant c.before.loop-test.true).small
+at16-x-requires : tie.Need-at16-x-requires invariant-loop decreases-loop
+at16-x-requires c κs = (walk_next _ _ _ _ _ _ _ c.before.before.loop-x.invariant c.before.loop-x-test.true).small
 
-loop-less : tie.Need-loop-smaller invariant-loop decreases-loop
-loop-less c =
+loop-x-smaller : tie.Need-loop-x-smaller invariant-loop decreases-loop
+loop-x-smaller c =
     let t = c.before.before in
-    walk_less _ _ _ _ _ _ _ t.before.loop.invariant t.loop-test.true _ c.at16.ensures
+    walk_less _ _ _ _ _ _ _ t.before.loop-x.invariant t.loop-x-test.true _ c.at16-x.ensures
 
-loop-again : tie.Need-loop-preserved invariant-loop decreases-loop
-loop-again c =
+loop-x-preserved : tie.Need-loop-x-preserved invariant-loop decreases-loop
+loop-x-preserved c =
     let t = c.before.before in
-    walk_turn _ _ _ _ _ _ _ t.before.loop.invariant t.loop-test.true _ _ c.at16.ensures c.before.applied.ensures
+    walk_turn _ _ _ _ _ _ _ t.before.loop-x.invariant t.loop-x-test.true _ _ c.at16-x.ensures c.before.applied-s.ensures
 
 returns : tie.Need-returns invariant-loop decreases-loop
-returns c = walk_end _ _ _ _ _ _ _ c.before.loop.invariant c.loop-test.false
+returns c = walk_end _ _ _ _ _ _ _ c.before.loop-x.invariant c.loop-x-test.false
 
 pub walked_spec : {M : Type 1} → statement M
 walked_spec =
@@ -43,9 +43,9 @@ walked_spec =
     (tie.spec
     invariant-loop
     decreases-loop
-    loop-holds
-    applied-requires
-    at16-requires
-    loop-less
-    loop-again
+    loop-x-init
+    applied-s-requires
+    at16-x-requires
+    loop-x-smaller
+    loop-x-preserved
     returns)

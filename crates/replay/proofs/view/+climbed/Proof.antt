@@ -38,71 +38,71 @@ from_head : (kind : Kind) (head next : List ℕ) (t first : ℕ) (s : State) →
     → Chain next first (chain_of next first) × Left kind (length (chain_of next first)) s
 from_head kind head next t first s linked h e left = rw e (linked.chains t h, left)
 
-climbed_at16_requires : (t : ℕ) → climbed-lts.Need-at16-requires (calls t) (climbed_at t) climbed.Post
-climbed_at16_requires t c κs = search rules
+at16-first-requires : (t : ℕ) → climbed-lts.Need-at16-first-requires (calls t) (climbed_at t) climbed.Post
+at16-first-requires t c κs = search rules
 
-climbed_walked_requires : (t : ℕ) → climbed-lts.Need-walked-requires (calls t) (climbed_at t) climbed.Post
-climbed_walked_requires t c κs =
+walked-requires : (t : ℕ) → climbed-lts.Need-walked-requires (calls t) (climbed_at t) climbed.Post
+walked-requires t c κs =
     let f = c.before in
     let a = f.before.args in
     let p = f.before.requires.1 in
-    from_head a.kind a.head.now a.next.now a.t f.at16.result a.start p.2 p.0 f.at16.ensures
-    (root_room a.parent.now (chain_at a.head.now a.next.now) a.t a.kind a.start p.3 c.if1.true)
+    from_head a.kind a.head.now a.next.now a.t f.at16-first.result a.start p.2 p.0 f.at16-first.ensures
+    (root_room a.parent.now (chain_at a.head.now a.next.now) a.t a.kind a.start p.3 c.if-t-eq0.true)
 
-climbed_at16_requires_2 : (t : ℕ) → climbed-lts.Need-at16-requires-2 (calls t) (climbed_at t) climbed.Post
-climbed_at16_requires_2 t c κs = search rules
+at16-requires : (t : ℕ) → climbed-lts.Need-at16-requires (calls t) (climbed_at t) climbed.Post
+at16-requires t c κs = search rules
 
-climbed_climbed_requires : (t : ℕ) → climbed-lts.Need-climbed-requires (calls t) (climbed_at t) climbed.Post
-climbed_climbed_requires t c κs =
+climbed-above-requires : (t : ℕ) → climbed-lts.Need-climbed-above-requires (calls t) (climbed_at t) climbed.Post
+climbed-above-requires t c κs =
     let e = c.before in
     let s = e.before.before in
     let a = s.args in
     let p = s.requires.1 in
     let own = chain_at a.head.now a.next.now in
-    let l = up_lower a.parent.now own a.t p.1 e.if1.false c.at162.result c.at162.ensures in (
+    let l = up_lower a.parent.now own a.t p.1 e.if-t-eq0.false c.at16.result c.at16.ensures in (
       omega (arith, l, s.requires.0),
       (
         omega (arith, l, p.0),
         lower_to _ _ _ p.1 (omega (arith, l)),
         p.2,
-        up_room a.parent.now own a.t p.1 e.if1.false c.at162.result c.at162.ensures a.kind a.start p.3,
+        up_room a.parent.now own a.t p.1 e.if-t-eq0.false c.at16.result c.at16.ensures a.kind a.start p.3,
       ),
     )
 
-climbed_walked_requires_2 : (t : ℕ) → climbed-lts.Need-walked-requires-2 (calls t) (climbed_at t) climbed.Post
-climbed_walked_requires_2 t c κs =
+walked-requires-else-t-eq0 : (t : ℕ) → climbed-lts.Need-walked-requires-else-t-eq0 (calls t) (climbed_at t) climbed.Post
+walked-requires-else-t-eq0 t c κs =
     let u = c.before in
     let e = u.before in
     let f = e.before in
     let a = f.before.args in
     let p = f.before.requires.1 in
-    from_head a.kind a.head.now a.next.now a.t f.at16.result c.climbed.result p.2 p.0 f.at16.ensures
-    (own_room a.parent.now (chain_at a.head.now a.next.now) a.t p.1 e.if1.false u.at162.result u.at162.ensures
-    a.kind a.operation.now a.argument.now a.start c.climbed.result p.3 c.climbed.ensures)
+    from_head a.kind a.head.now a.next.now a.t f.at16-first.result c.climbed-above.result p.2 p.0 f.at16-first.ensures
+    (own_room a.parent.now (chain_at a.head.now a.next.now) a.t p.1 e.if-t-eq0.false u.at16.result u.at16.ensures
+    a.kind a.operation.now a.argument.now a.start c.climbed-above.result p.3 c.climbed-above.ensures)
 
-climbed_returns : (t : ℕ) → climbed-lts.Need-returns (calls t) (climbed_at t) climbed.Post
-climbed_returns t c =
+returns-then-t-eq0 : (t : ℕ) → climbed-lts.Need-returns-then-t-eq0 (calls t) (climbed_at t) climbed.Post
+returns-then-t-eq0 t c =
     let f = c.before.before in
     let a = f.before.args in
-    root_done a.parent.now (chain_at a.head.now a.next.now) a.t (asked_of a.kind a.operation.now a.argument.now) a.start _ c.before.if1.true
-    (rw f.at16.ensures at c.walked.ensures)
+    root_done a.parent.now (chain_at a.head.now a.next.now) a.t (asked_of a.kind a.operation.now a.argument.now) a.start _ c.before.if-t-eq0.true
+    (rw f.at16-first.ensures at c.walked.ensures)
 
-climbed_returns_2 : (t : ℕ) → climbed-lts.Need-returns-2 (calls t) (climbed_at t) climbed.Post
-climbed_returns_2 t c =
+returns-else-t-eq0 : (t : ℕ) → climbed-lts.Need-returns-else-t-eq0 (calls t) (climbed_at t) climbed.Post
+returns-else-t-eq0 t c =
     let u = c.before.before in
     let e = u.before in
     let f = e.before in
     let a = f.before.args in
     let p = f.before.requires.1 in
-    own_done a.parent.now (chain_at a.head.now a.next.now) a.t p.1 e.if1.false u.at162.result u.at162.ensures
-    (asked_of a.kind a.operation.now a.argument.now) a.start c.before.climbed.result _ c.before.climbed.ensures (rw f.at16.ensures at c.walked2.ensures)
+    own_done a.parent.now (chain_at a.head.now a.next.now) a.t p.1 e.if-t-eq0.false u.at16.result u.at16.ensures
+    (asked_of a.kind a.operation.now a.argument.now) a.start c.before.climbed-above.result _ c.before.climbed-above.ensures (rw f.at16-first.ensures at c.walked-else-t-eq0.ensures)
 
 pub +climbed-spec : {M : Type 1} → statement M
 +climbed-spec = close μ_climbed λ t. climbed-lts.spec (calls t) (climbed_at t) climbed.Post
-    (climbed_at16_requires t)
-    (climbed_walked_requires t)
-    (climbed_at16_requires_2 t)
-    (climbed_climbed_requires t)
-    (climbed_walked_requires_2 t)
-    (climbed_returns t)
-    (climbed_returns_2 t)
+    (at16-first-requires t)
+    (walked-requires t)
+    (at16-requires t)
+    (climbed-above-requires t)
+    (walked-requires-else-t-eq0 t)
+    (returns-then-t-eq0 t)
+    (returns-else-t-eq0 t)

@@ -28,66 +28,66 @@ as_written : (kind : Kind) (operation : List ℕ) (argument : List ℤ) (view : 
     → r ≡ after_all (asked_of kind operation argument) view (start_of (opened_of kind opening))
 as_written kind operation argument view e r value given opening from g v f h = rw (e, ← f) ((rw (e, v) at g) ∙ h)
 
-enum_told : tie.Need-enum-told
-enum_told c = search rules
+enum_told-1 : tie.Need-enum_told-1
+enum_told-1 c = search rules
 
-last-written-requires : tie.Need-last-written-requires
-last-written-requires c κs =
+last_written-requires : tie.Need-last_written-requires
+last_written-requires c κs =
     let s = c.before.before in (
       linkable _ _ _ _ s.requires.0 s.requires.1,
       omega (arith, s.requires.0.rows_fit),
       lower_to _ _ _ s.requires.3 (omega arith),
-      rw (to_z-of_z s.ranges.opening) (subst (λ kind. opens (opened_of kind s.args.opening) ≡ true) c.enum_told.given.1 s.requires.4),
+      rw (to_z-of_z s.ranges.opening) (subst (λ kind. opens (opened_of kind s.args.opening) ≡ true) c.enum_told-1.given.1 s.requires.4),
     )
 
-opened-state-requires : tie.Need-opened-state-requires
-opened-state-requires c κs = search rules
+opened_state-requires : tie.Need-opened_state-requires
+opened_state-requires c κs = search rules
 
-chained-requires : tie.Need-chained-requires
-chained-requires c κs = let s = c.before in linkable _ _ _ _ s.requires.0 s.requires.1
+chained-chains-requires : tie.Need-chained-chains-requires
+chained-chains-requires c κs = let s = c.before in linkable _ _ _ _ s.requires.0 s.requires.1
 
-opened-state-requires-2 : tie.Need-opened-state-requires-2
-opened-state-requires-2 c κs = search rules
+opened_state-requires-in_default : tie.Need-opened_state-requires-in_default
+opened_state-requires-in_default c κs = search rules
 
 short : (s : tie.Start) → length (work s.args.listed s.args.order.now) ≤ places_most
 short s = omega (arith, length_work s.args.order.now s.args.listed, s.requires.0.listed_fit)
 
 -- the object starts as it opened
-started : (c : tie.After-opened-state2) → let s = c.before.before.before.before.before.before.before in
-    c.opened-state2.result ≡ start_of (opened_of s.args.kind s.args.opening)
+started : (c : tie.After-opened_state-in_default) → let s = c.before.before.before.before.before.before.before in
+    c.opened_state-in_default.result ≡ start_of (opened_of s.args.kind s.args.opening)
 started c =
     let s = c.before.before.before.before.before.before.before in
-    c.opened-state2.ensures ∙ ap (λ z. start_of (opened_of s.args.kind z)) (to_z-of_z s.ranges.opening)
+    c.opened_state-in_default.ensures ∙ ap (λ z. start_of (opened_of s.args.kind z)) (to_z-of_z s.ranges.opening)
 
 climbed-requires : tie.Need-climbed-requires
 climbed-requires c κs =
     let k = c.before.before.before.before.before in
     let s = k.before.before in
     let a = s.args in
-    let r = k.chained.result in (
+    let r = k.chained-chains.result in (
       omega (arith, s.requires.0.rows_fit),
       lower_to _ _ _ s.requires.3 (omega arith),
-      self_linked (work a.listed a.order.now) a.holder.now a.object.now a.o (short s) r.head r.next k.chained.ensures,
-      rw (started c) (chain_room (work a.listed a.order.now) a.holder.now a.object.now a.o (short s) r.head r.next k.chained.ensures
+      self_linked (work a.listed a.order.now) a.holder.now a.object.now a.o (short s) r.head-1 r.next-1 k.chained-chains.ensures,
+      rw (started c) (chain_room (work a.listed a.order.now) a.holder.now a.object.now a.o (short s) r.head-1 r.next-1 k.chained-chains.ensures
           a.parent.now a.rows s.requires.3 s.requires.0.rows_fit a.t s.requires.2 a.kind a.opening s.requires.4),
     )
 
-returns : tie.Need-returns
-returns c =
+returns-in-Register : tie.Need-returns-in-Register
+returns-in-Register c =
     let l = c.before in
     let e = l.before in
     let s = e.before.before in
     let a = s.args in
-    as_written a.kind a.operation.now a.argument.now _ e.enum_told.given.1 _ l.last_written.result _ a.opening _ c.opened_state.ensures (to_z-of_z {w = w64} (record { sfits = l.last_written.type-inv })) (to_z-of_z s.ranges.opening) l.last_written.ensures
+    as_written a.kind a.operation.now a.argument.now _ e.enum_told-1.given.1 _ l.last_written.result _ a.opening _ c.opened_state.ensures (to_z-of_z {w = w64} (record { sfits = l.last_written.type_inv })) (to_z-of_z s.ranges.opening) l.last_written.ensures
 
-returns-2 : tie.Need-returns-2
-returns-2 c =
+returns-in_default : tie.Need-returns-in_default
+returns-in_default c =
     let k = c.before.before.before.before.before.before in
     let s = k.before.before in
     let a = s.args in
-    let r = k.chained.result in
+    let r = k.chained-chains.result in
     c.climbed.ensures ∙ ap₂ (after_all (asked_of a.kind a.operation.now a.argument.now))
-    (chain_view (work a.listed a.order.now) a.holder.now a.object.now a.o (short s) r.head r.next k.chained.ensures
+    (chain_view (work a.listed a.order.now) a.holder.now a.object.now a.o (short s) r.head-1 r.next-1 k.chained-chains.ensures
     a.parent.now a.rows s.requires.3 s.requires.0.rows_fit a.t s.requires.2)
     (started c.before)
 
@@ -95,11 +95,11 @@ pub replayed_spec : {M : Type 1} → statement M
 replayed_spec =
     tie.close
     (tie.spec
-    enum_told
-    last-written-requires
-    opened-state-requires
-    chained-requires
-    opened-state-requires-2
+    enum_told-1
+    last_written-requires
+    opened_state-requires
+    chained-chains-requires
+    opened_state-requires-in_default
     climbed-requires
-    returns
-    returns-2)
+    returns-in-Register
+    returns-in_default)

@@ -26,36 +26,36 @@ nearest_below t = and 1 nearest-kinds.ps (falls 1 nearest-kinds.ps ◌<◌ μ_ne
 abbrev calls : ℕ → nearest-lts.Claims
 calls t = (at16-reads.Asked, at16-reads.Learnt, nearest_below t, nearest.Post)
 
-nearest_at16_requires : (t : ℕ) → nearest-lts.Need-at16-requires (calls t) (nearest_at t) nearest.Post
-nearest_at16_requires t c κs = search rules
+at16-own-requires : (t : ℕ) → nearest-lts.Need-at16-own-requires (calls t) (nearest_at t) nearest.Post
+at16-own-requires t c κs = search rules
 
-nearest_at16_requires_2 : (t : ℕ) → nearest-lts.Need-at16-requires-2 (calls t) (nearest_at t) nearest.Post
-nearest_at16_requires_2 t c κs = search rules
+at16-requires : (t : ℕ) → nearest-lts.Need-at16-requires (calls t) (nearest_at t) nearest.Post
+at16-requires t c κs = search rules
 
-nearest_nearest_requires : (t : ℕ) → nearest-lts.Need-nearest-requires (calls t) (nearest_at t) nearest.Post
-nearest_nearest_requires t c κs =
+nearest-requires : (t : ℕ) → nearest-lts.Need-nearest-requires (calls t) (nearest_at t) nearest.Post
+nearest-requires t c κs =
     let n = c.before in
     let s = n.before.before.before in
     let a = s.args in
     let p = s.requires.1 in
-    let l = p.1.lower a.t (omega (arith, n.if2.false)) (omega arith) in
-    (omega (arith, l, c.at162.ensures, s.requires.0), (omega (arith, l, c.at162.ensures, p.0), lower_to _ _ _ p.1 (omega (arith, l, c.at162.ensures))))
+    let l = p.1.lower a.t (omega (arith, n.if-t-eq0.false)) (omega arith) in
+    (omega (arith, l, c.at16.ensures, s.requires.0), (omega (arith, l, c.at16.ensures, p.0), lower_to _ _ _ p.1 (omega (arith, l, c.at16.ensures))))
 
-nearest_returns : (t : ℕ) → nearest-lts.Need-returns (calls t) (nearest_at t) nearest.Post
-nearest_returns t c =
+returns-then-own-ne0 : (t : ℕ) → nearest-lts.Need-returns-then-own-ne0 (calls t) (nearest_at t) nearest.Post
+returns-then-own-ne0 t c =
     let o = c.before in
     let s = o.before in
-    o.at16.ensures ∙ sym (nearest_own s.args.parent.now s.args.last.now s.args.t s.requires.1.1 (λ z. c.if1.true (o.at16.ensures ∙ z)))
+    o.at16-own.ensures ∙ sym (nearest_own s.args.parent.now s.args.last.now s.args.t s.requires.1.1 (λ z. c.if-own-ne0.true (o.at16-own.ensures ∙ z)))
 
-nearest_returns_2 : (t : ℕ) → nearest-lts.Need-returns-2 (calls t) (nearest_at t) nearest.Post
-nearest_returns_2 t c =
+returns-then-t-eq0 : (t : ℕ) → nearest-lts.Need-returns-then-t-eq0 (calls t) (nearest_at t) nearest.Post
+returns-then-t-eq0 t c =
     let n = c.before in
     let o = n.before in
     let s = o.before in
-    sym (nearest_root s.args.parent.now s.args.last.now s.args.t c.if2.true ∙ sym o.at16.ensures ∙ n.if1.false)
+    sym (nearest_root s.args.parent.now s.args.last.now s.args.t c.if-t-eq0.true ∙ sym o.at16-own.ensures ∙ n.if-own-ne0.false)
 
-nearest_returns_3 : (t : ℕ) → nearest-lts.Need-returns-3 (calls t) (nearest_at t) nearest.Post
-nearest_returns_3 t c =
+returns-else-t-eq0 : (t : ℕ) → nearest-lts.Need-returns-else-t-eq0 (calls t) (nearest_at t) nearest.Post
+returns-else-t-eq0 t c =
     let u = c.before in
     let n = u.before in
     let f = n.before in
@@ -63,14 +63,14 @@ nearest_returns_3 t c =
     let s = o.before in
     let parent = s.args.parent.now in
     let last = s.args.last.now in
-    c.nearest.ensures ∙ ap (nearest_in parent last) u.at162.ensures
-    ∙ sym (nearest_above parent last s.args.t s.requires.1.1 (sym o.at16.ensures ∙ f.if1.false) n.if2.false)
+    c.nearest.ensures ∙ ap (nearest_in parent last) u.at16.ensures
+    ∙ sym (nearest_above parent last s.args.t s.requires.1.1 (sym o.at16-own.ensures ∙ f.if-own-ne0.false) n.if-t-eq0.false)
 
 pub +nearest-spec : {M : Type 1} → statement M
 +nearest-spec = close μ_nearest λ t. nearest-lts.spec (calls t) (nearest_at t) nearest.Post
-    (nearest_at16_requires t)
-    (nearest_at16_requires_2 t)
-    (nearest_nearest_requires t)
-    (nearest_returns t)
-    (nearest_returns_2 t)
-    (nearest_returns_3 t)
+    (at16-own-requires t)
+    (at16-requires t)
+    (nearest-requires t)
+    (returns-then-own-ne0 t)
+    (returns-then-t-eq0 t)
+    (returns-else-t-eq0 t)

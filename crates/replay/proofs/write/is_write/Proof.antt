@@ -5,51 +5,51 @@ use Rattle.serial.proofs.Others.{not_register}
 use Rattle.replay.proofs.write.is_write.Statement.{statement}
 use Rattle.replay.proofs.write.is_write.Tie as tie
 
-enum-known-asked : tie.Need-enum-known-asked
-enum-known-asked c = search rules
+enum_known-asked : tie.Need-enum_known-asked
+enum_known-asked c = search rules
 
-enum-known-operation : tie.Need-enum-known-operation
-enum-known-operation c = search rules
+enum_known-operation : tie.Need-enum_known-operation
+enum_known-operation c = search rules
 
-enum_told : tie.Need-enum-told
-enum_told c = search rules
+enum_told-1 : tie.Need-enum_told-1
+enum_told-1 c = search rules
 
-enum-told-2 : tie.Need-enum-told-2
-enum-told-2 c = search rules
+enum_told-in-Write : tie.Need-enum_told-in-Write
+enum_told-in-Write c = search rules
 
-enum-told-3 : tie.Need-enum-told-3
-enum-told-3 c = search rules
+enum_told-in-Unfit : tie.Need-enum_told-in-Unfit
+enum_told-in-Unfit c = search rules
 
-returns : tie.Need-returns
-returns c =
+returns-in-Read : tie.Need-returns-in-Read
+returns-in-Read c =
     let o = c.before.before.before in
     let k = o.before.before.before in
-    rw (k.asked.given.1, o.operation.given.1, c.enum_told.given.1) refl
+    rw (k.asked-1.given.1, o.operation-1.given.1, c.enum_told-1.given.1) refl
 
-returns-2 : tie.Need-returns-2
-returns-2 c =
+returns-in-Write : tie.Need-returns-in-Write
+returns-in-Write c =
     let o = c.before.before.before in
     let k = o.before.before.before in
-    rw (k.asked.given.1, o.operation.given.1, c.enum-told2.given.1) refl
+    rw (k.asked-1.given.1, o.operation-1.given.1, c.enum_told-in-Write-1.given.1) refl
 
-returns-3 : tie.Need-returns-3
-returns-3 c =
+returns-in_default : tie.Need-returns-in_default
+returns-in_default c =
     let k = c.before.before in
-    rw k.asked.given.1 (not_register puts k.asked.given.0.0 c.match2.keys2)
+    rw k.asked-1.given.1 (not_register puts k.asked-1.given.0.0 c.in_default.keys2)
 
-returns-4 : tie.Need-returns-4
-returns-4 c = rw c.enum-told3.given.1 refl
+returns-in-Unfit : tie.Need-returns-in-Unfit
+returns-in-Unfit c = rw c.enum_told-in-Unfit-1.given.1 refl
 
 pub is_write_spec : {M : Type 1} → statement M
 is_write_spec =
     tie.close
     (tie.spec
-    enum-known-asked
-    enum-known-operation
-    enum_told
-    enum-told-2
-    enum-told-3
-    returns
-    returns-2
-    returns-3
-    returns-4)
+    enum_known-asked
+    enum_known-operation
+    enum_told-1
+    enum_told-in-Write
+    enum_told-in-Unfit
+    returns-in-Read
+    returns-in-Write
+    returns-in_default
+    returns-in-Unfit)

@@ -16,121 +16,121 @@ use Rattle.replay.proofs.Writes.{Noted, noted_start, noted_skip, noted_turn, not
 use Rattle.replay.proofs.write.last_writes.Statement.{statement}
 use Rattle.replay.proofs.write.last_writes.Tie as tie
 
-abbrev invariant-loop : tie.invariant-loop
+abbrev invariant-loop : tie.invariant-loop-i
 invariant-loop order listed holder object operation argument o last₀ i₀ last i = (i ≤ listed) × Noted (asked_of Register operation argument) order holder object listed o i last
 
-abbrev decreases-loop : tie.decreases-loop
+abbrev decreases-loop : tie.decreases-loop-i
 decreases-loop order listed holder object operation argument o last₀ i₀ last i = i
 
-loop-holds : tie.Need-loop-init invariant-loop decreases-loop
-loop-holds c = (omega arith, noted_start _ _ _ _ _ _ _ refl (λ u h. get_or-replicate 1025 u 0 0 h))
+loop-i-init : tie.Need-loop-i-init invariant-loop decreases-loop
+loop-i-init c = (omega arith, noted_start _ _ _ _ _ _ _ refl (λ u h. get_or-replicate 1025 u 0 0 h))
 
-sub-i : tie.Need-overflow-sub-i invariant-loop decreases-loop
-sub-i c = search rules
+overflow_sub-i : tie.Need-overflow_sub-i invariant-loop decreases-loop
+overflow_sub-i c = search rules
 
-entry-requires : tie.Need-entry-requires invariant-loop decreases-loop
-entry-requires c κs = omega (arith, c.before.before.requires.fit)
+entry-x-requires : tie.Need-entry-x-requires invariant-loop decreases-loop
+entry-x-requires c κs = omega (arith, c.before.before.requires.fit)
 
-row : (c : tie.After-entry invariant-loop decreases-loop) → c.entry.result < rows_most
-row c = let a = c.before.before in entry_row _ _ _ a.before.requires _ _ c.before.loop-test.true a.loop.invariant.0 c.entry.ensures
+row : (c : tie.After-entry-x invariant-loop decreases-loop) → c.entry-x.result < rows_most
+row c = let a = c.before.before in entry_row _ _ _ a.before.requires _ _ c.before.loop-i-test.true a.loop-i.invariant.0 c.entry-x.ensures
 
-holds : (c : tie.After-at16 invariant-loop decreases-loop) → c.at16.result < rows_most
+holds : (c : tie.After-at16-h invariant-loop decreases-loop) → c.at16-h.result < rows_most
 holds c =
     let e = c.before.before.before in
     let a = e.before.before in
-    holder_row _ _ _ a.before.requires _ _ e.before.loop-test.true a.loop.invariant.0 e.entry.ensures _ c.at16.ensures
+    holder_row _ _ _ a.before.requires _ _ e.before.loop-i-test.true a.loop-i.invariant.0 e.entry-x.ensures _ c.at16-h.ensures
 
-element-copy-out-if1 : tie.Need-element-copy-out-if1 invariant-loop decreases-loop
-element-copy-out-if1 c = row c
+bounds-object-x : tie.Need-bounds-object-x invariant-loop decreases-loop
+bounds-object-x c = row c
 
-at16-requires : tie.Need-at16-requires invariant-loop decreases-loop
-at16-requires c κs = omega (arith, row c.before.before)
+at16-h-requires : tie.Need-at16-h-requires invariant-loop decreases-loop
+at16-h-requires c κs = omega (arith, row c.before.before)
 
-mul-if2 : tie.Need-overflow-mul-if2 invariant-loop decreases-loop
-mul-if2 c = omega (arith, holds c)
+offset_bounds-last-h : tie.Need-offset_bounds-last-h invariant-loop decreases-loop
+offset_bounds-last-h c = omega (arith, holds c)
 
-array-read-if2 : tie.Need-array-read-if2 invariant-loop decreases-loop
-array-read-if2 c = holds c
+bounds-last-h : tie.Need-bounds-last-h invariant-loop decreases-loop
+bounds-last-h c = holds c
 
 asked-requires : tie.Need-asked-requires invariant-loop decreases-loop
 asked-requires c κs = row c.before.before.before.before
 
-is-write-requires : tie.Need-is-write-requires invariant-loop decreases-loop
-is-write-requires c κs = search rules
+is_write-requires : tie.Need-is_write-requires invariant-loop decreases-loop
+is_write-requires c κs = search rules
 
-cast-last : tie.Need-overflow-cast-last invariant-loop decreases-loop
-cast-last c = omega (arith, row c.before.before.before.before.before.before.before)
+overflow_cast-last : tie.Need-overflow_cast-last invariant-loop decreases-loop
+overflow_cast-last c = omega (arith, row c.before.before.before.before.before.before.before)
 
-mul-last : tie.Need-overflow-mul-last invariant-loop decreases-loop
-mul-last c = omega (arith, holds c.before.before.before.before)
+offset_bounds-last-h-then-is_write : tie.Need-offset_bounds-last-h-then-is_write invariant-loop decreases-loop
+offset_bounds-last-h-then-is_write c = omega (arith, holds c.before.before.before.before)
 
-array-write-last : tie.Need-array-write-last invariant-loop decreases-loop
-array-write-last c = holds c.before.before.before.before
+bounds-last-h-then-is_write : tie.Need-bounds-last-h-then-is_write invariant-loop decreases-loop
+bounds-last-h-then-is_write c = holds c.before.before.before.before
 
 -- an entry of the object's, with what is then noted for its holder
-turned : (c : tie.After-at16 invariant-loop decreases-loop) (out : List ℕ) → let e = c.before.before.before in let a = e.before.before in let s = a.before.args in
+turned : (c : tie.After-at16-h invariant-loop decreases-loop) (out : List ℕ) → let e = c.before.before.before in let a = e.before.before in let s = a.before.args in
     length out ≡ rows_most
-    → at out c.at16.result ≡ or_else (at a.loop.last c.at16.result) (cond (is_write (asked_of Register s.operation.now s.argument.now e.entry.result)) e.entry.result 0)
-    → ((u : ℕ) → (u ≡ c.at16.result → ⊥) → at out u ≡ at a.loop.last u)
-    → (a.loop.i - 1 ≤ s.listed) × Noted (asked_of Register s.operation.now s.argument.now) s.order.now s.holder.now s.object.now s.listed s.o (a.loop.i - 1) out
+    → at out c.at16-h.result ≡ or_else (at a.loop-i.last c.at16-h.result) (cond (is_write (asked_of Register s.operation.now s.argument.now e.entry-x.result)) e.entry-x.result 0)
+    → ((u : ℕ) → (u ≡ c.at16-h.result → ⊥) → at out u ≡ at a.loop-i.last u)
+    → (a.loop-i.i - 1 ≤ s.listed) × Noted (asked_of Register s.operation.now s.argument.now) s.order.now s.holder.now s.object.now s.listed s.o (a.loop-i.i - 1) out
 turned c out size here there =
     let t = c.before in
     let e = t.before.before in
     let a = e.before.before in
-    (omega arith, noted_turn _ _ _ _ _ _ _ _ e.before.loop-test.true a.loop.invariant.0 e.entry.ensures _ a.loop.invariant.1 _ out t.if1.true c.at16.ensures size here there)
+    (omega arith, noted_turn _ _ _ _ _ _ _ _ e.before.loop-i-test.true a.loop-i.invariant.0 e.entry-x.ensures _ a.loop-i.invariant.1 _ out t.if-object-x.true c.at16-h.ensures size here there)
 
-loop-less : tie.Need-loop-smaller invariant-loop decreases-loop
-loop-less c = search rules
+loop-i-smaller-then-is_write : tie.Need-loop-i-smaller-then-is_write invariant-loop decreases-loop
+loop-i-smaller-then-is_write c = search rules
 
-loop-again : tie.Need-loop-preserved invariant-loop decreases-loop
-loop-again c =
+loop-i-preserved-then-is_write : tie.Need-loop-i-preserved-then-is_write invariant-loop decreases-loop
+loop-i-preserved-then-is_write c =
     let w = c.before in
     let k = w.before in
     let z = k.before in
     let h = z.before in
     let e = h.before.before.before in
     let a = e.before.before in
-    let last = a.loop.last in
-    turned h _ (length-set last _ _ ∙ a.loop.invariant.1.size)
-    (get_or-set_same last h.at16.result _ 0 (omega (arith, holds h, a.loop.invariant.1.size))
-    ∙ rw (eq-eqb (at last h.at16.result) 0 z.if2.true, ← k.asked.ensures, ← w.is-write.ensures, c.if3.true))
-    (λ u n. get_or-set_other last h.at16.result u _ 0 n)
+    let last = a.loop-i.last in
+    turned h _ (length-set last _ _ ∙ a.loop-i.invariant.1.size)
+    (get_or-set_same last h.at16-h.result _ 0 (omega (arith, holds h, a.loop-i.invariant.1.size))
+    ∙ rw (eq-eqb (at last h.at16-h.result) 0 z.if-last-h-eq0.true, ← k.asked.ensures, ← w.is_write.ensures, c.if-is_write.true))
+    (λ u n. get_or-set_other last h.at16-h.result u _ 0 n)
 
-loop-less-2 : tie.Need-loop-smaller-2 invariant-loop decreases-loop
-loop-less-2 c = search rules
+loop-i-smaller-else-is_write : tie.Need-loop-i-smaller-else-is_write invariant-loop decreases-loop
+loop-i-smaller-else-is_write c = search rules
 
-loop-again-2 : tie.Need-loop-preserved-2 invariant-loop decreases-loop
-loop-again-2 c =
+loop-i-preserved-else-is_write : tie.Need-loop-i-preserved-else-is_write invariant-loop decreases-loop
+loop-i-preserved-else-is_write c =
     let w = c.before in
     let k = w.before in
     let z = k.before in
     let h = z.before in
     let a = h.before.before.before.before.before in
-    let last = a.loop.last in
-    turned h last a.loop.invariant.1.size
-    (rw (eq-eqb (at last h.at16.result) 0 z.if2.true, ← k.asked.ensures, ← w.is-write.ensures, c.if3.false) z.if2.true)
+    let last = a.loop-i.last in
+    turned h last a.loop-i.invariant.1.size
+    (rw (eq-eqb (at last h.at16-h.result) 0 z.if-last-h-eq0.true, ← k.asked.ensures, ← w.is_write.ensures, c.if-is_write.false) z.if-last-h-eq0.true)
     (λ u n. refl)
 
-loop-less-3 : tie.Need-loop-smaller-3 invariant-loop decreases-loop
-loop-less-3 c = search rules
+loop-i-smaller-else-last-h-eq0 : tie.Need-loop-i-smaller-else-last-h-eq0 invariant-loop decreases-loop
+loop-i-smaller-else-last-h-eq0 c = search rules
 
-loop-again-3 : tie.Need-loop-preserved-3 invariant-loop decreases-loop
-loop-again-3 c =
+loop-i-preserved-else-last-h-eq0 : tie.Need-loop-i-preserved-else-last-h-eq0 invariant-loop decreases-loop
+loop-i-preserved-else-last-h-eq0 c =
     let h = c.before in
     let a = h.before.before.before.before.before in
-    turned h a.loop.last a.loop.invariant.1.size (rw (ne_eqb (at a.loop.last h.at16.result) 0 c.if2.false)) (λ u n. refl)
+    turned h a.loop-i.last a.loop-i.invariant.1.size (rw (ne_eqb (at a.loop-i.last h.at16-h.result) 0 c.if-last-h-eq0.false)) (λ u n. refl)
 
-loop-less-4 : tie.Need-loop-smaller-4 invariant-loop decreases-loop
-loop-less-4 c = search rules
+loop-i-smaller : tie.Need-loop-i-smaller invariant-loop decreases-loop
+loop-i-smaller c = search rules
 
-loop-again-4 : tie.Need-loop-preserved-4 invariant-loop decreases-loop
-loop-again-4 c =
+loop-i-preserved : tie.Need-loop-i-preserved invariant-loop decreases-loop
+loop-i-preserved c =
     let e = c.before.before in
     let a = e.before.before in
-    (omega arith, noted_skip _ _ _ _ _ _ _ _ e.before.loop-test.true a.loop.invariant.0 e.entry.ensures _ a.loop.invariant.1 c.if1.false)
+    (omega arith, noted_skip _ _ _ _ _ _ _ _ e.before.loop-i-test.true a.loop-i.invariant.0 e.entry-x.ensures _ a.loop-i.invariant.1 c.if-object-x.false)
 
 returns : tie.Need-returns invariant-loop decreases-loop
-returns c = noted_end _ _ _ _ _ _ _ _ (omega arith) c.before.loop.invariant.1
+returns c = noted_end _ _ _ _ _ _ _ _ (omega arith) c.before.loop-i.invariant.1
 
 pub last_writes_spec : {M : Type 1} → statement M
 last_writes_spec =
@@ -138,24 +138,24 @@ last_writes_spec =
     (tie.spec
     invariant-loop
     decreases-loop
-    loop-holds
-    sub-i
-    entry-requires
-    element-copy-out-if1
-    at16-requires
-    mul-if2
-    array-read-if2
+    loop-i-init
+    overflow_sub-i
+    entry-x-requires
+    bounds-object-x
+    at16-h-requires
+    offset_bounds-last-h
+    bounds-last-h
     asked-requires
-    is-write-requires
-    cast-last
-    mul-last
-    array-write-last
-    loop-less
-    loop-again
-    loop-less-2
-    loop-again-2
-    loop-less-3
-    loop-again-3
-    loop-less-4
-    loop-again-4
+    is_write-requires
+    overflow_cast-last
+    offset_bounds-last-h-then-is_write
+    bounds-last-h-then-is_write
+    loop-i-smaller-then-is_write
+    loop-i-preserved-then-is_write
+    loop-i-smaller-else-is_write
+    loop-i-preserved-else-is_write
+    loop-i-smaller-else-last-h-eq0
+    loop-i-preserved-else-last-h-eq0
+    loop-i-smaller
+    loop-i-preserved
     returns)

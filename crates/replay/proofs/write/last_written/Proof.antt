@@ -9,48 +9,48 @@ use Rattle.replay.proofs.Writes.{nearest_row, unwritten, written}
 use Rattle.replay.proofs.write.last_written.Statement.{statement}
 use Rattle.replay.proofs.write.last_written.Tie as tie
 
-last-writes-requires : tie.Need-last-writes-requires
-last-writes-requires c κs = search rules
+last_writes-last-requires : tie.Need-last_writes-last-requires
+last_writes-last-requires c κs = search rules
 
-nearest-requires : tie.Need-nearest-requires
-nearest-requires c κs = search rules
+nearest-x-requires : tie.Need-nearest-x-requires
+nearest-x-requires c κs = search rules
 
-row : (c : tie.After-nearest) → c.nearest.result < rows_most
+row : (c : tie.After-nearest-x) → c.nearest-x.result-1 < rows_most
 row c =
     let k = c.before.before in
     let a = k.before.args in
-    rw c.nearest.ensures
+    rw c.nearest-x.ensures
     (nearest_row a.parent.now a.order.now a.holder.now a.object.now a.listed a.o a.t k.before.requires.0 k.before.requires.1 k.before.requires.2
-    a.operation.now a.argument.now k.last-writes.result k.last-writes.ensures)
+    a.operation.now a.argument.now k.last_writes-last.result-1 k.last_writes-last.ensures)
 
-mul-result : tie.Need-overflow-mul-result
-mul-result c = omega (arith, row c.before)
+offset_bounds-argument-x : tie.Need-offset_bounds-argument-x
+offset_bounds-argument-x c = omega (arith, row c.before)
 
-element-copy-out-result : tie.Need-element-copy-out-result
-element-copy-out-result c = row c.before
+bounds-argument-x : tie.Need-bounds-argument-x
+bounds-argument-x c = row c.before
 
-returns : tie.Need-returns
-returns c =
+returns-then-x-eq0 : tie.Need-returns-then-x-eq0
+returns-then-x-eq0 c =
     let n = c.before in
     let k = n.before.before in
     let s = k.before in
     let a = s.args in
-    let none : n.nearest.result ≡ 0 = c.if1.true in
+    let none : n.nearest-x.result-1 ≡ 0 = c.if-x-eq0.true in
     rw (to_z-of_z s.ranges.opening)
     (unwritten a.parent.now a.order.now a.holder.now a.object.now a.listed a.o a.t s.requires.0 s.requires.1 s.requires.2
-    a.operation.now a.argument.now k.last-writes.result k.last-writes.ensures a.opening s.requires.3 (sym n.nearest.ensures ∙ none))
+    a.operation.now a.argument.now k.last_writes-last.result-1 k.last_writes-last.ensures a.opening s.requires.3 (sym n.nearest-x.ensures ∙ none))
 
-returns-2 : tie.Need-returns-2
-returns-2 c =
+returns-else-x-eq0 : tie.Need-returns-else-x-eq0
+returns-else-x-eq0 c =
     let e = c.before in
     let n = e.before in
     let k = n.before.before in
     let s = k.before in
     let a = s.args in
-    let some : n.nearest.result ≡ 0 → ⊥ = e.if1.false in
-    rw (to_z-of_z {w = w64} (record { sfits = c.result.given }), n.nearest.ensures)
+    let some : n.nearest-x.result-1 ≡ 0 → ⊥ = e.if-x-eq0.false in
+    rw (to_z-of_z {w = w64} (record { sfits = c.result-1.given }), n.nearest-x.ensures)
     (written a.parent.now a.order.now a.holder.now a.object.now a.listed a.o a.t s.requires.0 s.requires.1 s.requires.2
-    a.operation.now a.argument.now k.last-writes.result k.last-writes.ensures a.opening s.requires.3 (λ z. some (n.nearest.ensures ∙ z)))
+    a.operation.now a.argument.now k.last_writes-last.result-1 k.last_writes-last.ensures a.opening s.requires.3 (λ z. some (n.nearest-x.ensures ∙ z)))
 
 pub last_written_spec : {M : Type 1} → statement M
-last_written_spec = tie.close (tie.spec last-writes-requires nearest-requires mul-result element-copy-out-result returns returns-2)
+last_written_spec = tie.close (tie.spec last_writes-last-requires nearest-x-requires offset_bounds-argument-x bounds-argument-x returns-then-x-eq0 returns-else-x-eq0)

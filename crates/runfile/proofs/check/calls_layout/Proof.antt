@@ -3,33 +3,33 @@ use borrow.Author.Rules.{rules}
 use Rattle.runfile.proofs.check.calls_layout.Statement.{statement}
 use Rattle.runfile.proofs.check.calls_layout.Tie as tie
 
-section-at-requires : tie.Need-section-at-requires
-section-at-requires c κs = search rules
+section_at-end-requires : tie.Need-section_at-end-requires
+section_at-end-requires c κs = search rules
 
-enum-known-end : tie.Need-enum-known-end
-enum-known-end c = search rules
+enum_known-end : tie.Need-enum_known-end
+enum_known-end c = search rules
 
-enum-known-end-2 : tie.Need-enum-known-end-2
-enum-known-end-2 c = search rules
+enum_known-end-in-After-1 : tie.Need-enum_known-end-in-After-1
+enum_known-end-in-After-1 c = search rules
 
-ended-at-requires : tie.Need-ended-at-requires
-ended-at-requires c κs = search rules
+ended_at-requires : tie.Need-ended_at-requires
+ended_at-requires c κs = search rules
 
-returns : tie.Need-returns
-returns c = let e = c.before in
-    simp (sym e.before.before.section-at.ensures ∙ e.end.given.1)
+returns-in-Wrong : tie.Need-returns-in-Wrong
+returns-in-Wrong c = let e = c.before in
+    simp (sym e.before.before.section_at-end.ensures ∙ e.end-1.given.1)
 
-returns-2 : tie.Need-returns-2
-returns-2 c = let e = c.before.before in
-    simp (sym e.before.before.section-at.ensures ∙ e.end2.given.1) c.ended_at.ensures
+returns-in-After : tie.Need-returns-in-After
+returns-in-After c = let e = c.before.before in
+    simp (sym e.before.before.section_at-end.ensures ∙ e.end-in-After-1.given.1) c.ended_at.ensures
 
 pub calls_layout_spec : {M : Type 1} → statement M
 calls_layout_spec =
     tie.close
     (tie.spec
-    section-at-requires
-    enum-known-end
-    enum-known-end-2
-    ended-at-requires
-    returns
-    returns-2)
+    section_at-end-requires
+    enum_known-end
+    enum_known-end-in-After-1
+    ended_at-requires
+    returns-in-Wrong
+    returns-in-After)

@@ -6,35 +6,35 @@ use Rattle.written.proofs.File.{holds_objects}
 use Rattle.runfile.proofs.check.layout_of.Statement.{statement}
 use Rattle.runfile.proofs.check.layout_of.Tie as tie
 
-section-at-requires : tie.Need-section-at-requires
-section-at-requires c κs = search rules
+section_at-end-requires : tie.Need-section_at-end-requires
+section_at-end-requires c κs = search rules
 
-enum-known-end : tie.Need-enum-known-end
-enum-known-end c = search rules
+enum_known-end : tie.Need-enum_known-end
+enum_known-end c = search rules
 
-enum-known-end-2 : tie.Need-enum-known-end-2
-enum-known-end-2 c = search rules
+enum_known-end-in-After-1 : tie.Need-enum_known-end-in-After-1
+enum_known-end-in-After-1 c = search rules
 
-calls-layout-requires : tie.Need-calls-layout-requires
-calls-layout-requires c κs = let e = c.before in
+calls_layout-requires : tie.Need-calls_layout-requires
+calls_layout-requires c κs = let e = c.before in
     let s = e.before.before in
-    omega (arith, section_after holds_objects s.before.before.args.file.now (record { at = 0; line = 1 }) e.end2.given.0.0 e.end2.given.0.1.0 (sym s.section-at.ensures ∙ e.end2.given.1))
+    omega (arith, section_after holds_objects s.before.before.args.file.now (record { at = 0; line = 1 }) e.end-in-After-1.given.0.0 e.end-in-After-1.given.0.1.0 (sym s.section_at-end.ensures ∙ e.end-in-After-1.given.1))
 
-returns : tie.Need-returns
-returns c = let e = c.before in
-    simp (sym e.before.before.section-at.ensures ∙ e.end.given.1)
+returns-in-Wrong : tie.Need-returns-in-Wrong
+returns-in-Wrong c = let e = c.before in
+    simp (sym e.before.before.section_at-end.ensures ∙ e.end-1.given.1)
 
-returns-2 : tie.Need-returns-2
-returns-2 c = let e = c.before.before in
-    simp (sym e.before.before.section-at.ensures ∙ e.end2.given.1) c.calls-layout.ensures
+returns-in-After : tie.Need-returns-in-After
+returns-in-After c = let e = c.before.before in
+    simp (sym e.before.before.section_at-end.ensures ∙ e.end-in-After-1.given.1) c.calls_layout.ensures
 
 pub layout_of_spec : {M : Type 1} → statement M
 layout_of_spec =
     tie.close
     (tie.spec
-    section-at-requires
-    enum-known-end
-    enum-known-end-2
-    calls-layout-requires
-    returns
-    returns-2)
+    section_at-end-requires
+    enum_known-end
+    enum_known-end-in-After-1
+    calls_layout-requires
+    returns-in-Wrong
+    returns-in-After)

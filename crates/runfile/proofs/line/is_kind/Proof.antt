@@ -2,20 +2,20 @@ use borrow.Author.Tests.{ne_eqb}
 use Rattle.runfile.proofs.line.is_kind.Statement.{statement}
 use Rattle.runfile.proofs.line.is_kind.Tie as tie
 
-returns : tie.Need-returns
-returns c = rw c.match.keys1
+returns-in-65 : tie.Need-returns-in-65
+returns-in-65 c = rw c.in_default.keys1
 
-returns-2 : tie.Need-returns-2
-returns-2 c = rw c.match.keys2
+returns-in-82 : tie.Need-returns-in-82
+returns-in-82 c = rw c.in_default.keys2
 
-returns-3 : tie.Need-returns-3
-returns-3 c = rw c.match.keys3
+returns-in-75 : tie.Need-returns-in-75
+returns-in-75 c = rw c.in_default.keys3
 
-returns-4 : tie.Need-returns-4
-returns-4 c = rw c.match.keys4
+returns-in-83 : tie.Need-returns-in-83
+returns-in-83 c = rw c.in_default.keys4
 
-returns-5 : tie.Need-returns-5
-returns-5 c = rw (ne_eqb _ _ c.match.rest.0.0.0.1, ne_eqb _ _ c.match.rest.0.0.1, ne_eqb _ _ c.match.rest.0.1, ne_eqb _ _ c.match.rest.1)
+returns-in_default : tie.Need-returns-in_default
+returns-in_default c = rw (ne_eqb _ _ c.in_default.rest.0.0.0.1, ne_eqb _ _ c.in_default.rest.0.0.1, ne_eqb _ _ c.in_default.rest.0.1, ne_eqb _ _ c.in_default.rest.1)
 
 pub is_kind_spec : {M : Type 1} → statement M
-is_kind_spec = tie.close (tie.spec returns returns-2 returns-3 returns-4 returns-5)
+is_kind_spec = tie.close (tie.spec returns-in-65 returns-in-82 returns-in-75 returns-in-83 returns-in_default)

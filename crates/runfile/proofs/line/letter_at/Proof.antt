@@ -9,41 +9,41 @@ use Rattle.written.proofs.Letters.{letter_past}
 use Rattle.runfile.proofs.line.letter_at.Statement.{statement}
 use Rattle.runfile.proofs.line.letter_at.Tie as tie
 
-returns : tie.Need-returns
-returns c = sym (letter_past c.before.args.file.now c.before.args.at (search rules))
+returns-then-file-at : tie.Need-returns-then-file-at
+returns-then-file-at c = sym (letter_past c.before.args.file.now c.before.args.at (search rules))
 
-add-after : tie.Need-overflow-add-after
-add-after c = search rules
+overflow_add-after : tie.Need-overflow_add-after
+overflow_add-after c = search rules
 
-returns-2 : tie.Need-returns-2
-returns-2 c = sym (letter_past c.before.before.args.file.now c.before.before.args.at (search rules))
+returns-then-file-after : tie.Need-returns-then-file-after
+returns-then-file-after c = sym (letter_past c.before.before.args.file.now c.before.before.args.at (search rules))
 
-shared-slice-read-if3 : tie.Need-shared-slice-read-if3
-shared-slice-read-if3 c = search rules
+bounds-file-after : tie.Need-bounds-file-after
+bounds-file-after c = search rules
 
-shared-slice-read-result : tie.Need-shared-slice-read-result
-shared-slice-read-result c = search rules
+bounds-file-at : tie.Need-bounds-file-at
+bounds-file-at c = search rules
 
-returns-3 : tie.Need-returns-3
+returns-then-file-after-eq-SPACE : tie.Need-returns-then-file-after-eq-SPACE
 unfolding letter_at
-returns-3 c =
+returns-then-file-after-eq-SPACE c =
     let a = c.before.before.before.before.before.args in
-    simp (eq-eqb (get_or a.file.now (a.at + 1) 0) space c.before.if3.true)
+    simp (eq-eqb (get_or a.file.now (a.at + 1) 0) space c.before.if-file-after-eq-SPACE.true)
 
-returns-4 : tie.Need-returns-4
+returns-else-file-after-eq-SPACE : tie.Need-returns-else-file-after-eq-SPACE
 unfolding letter_at
-returns-4 c =
+returns-else-file-after-eq-SPACE c =
     let a = c.before.before.before.before.args in
-    simp (ne_eqb (get_or a.file.now (a.at + 1) 0) space c.if3.false)
+    simp (ne_eqb (get_or a.file.now (a.at + 1) 0) space c.if-file-after-eq-SPACE.false)
 
 pub letter_at_spec : {M : Type 1} → statement M
 letter_at_spec =
     tie.close
     (tie.spec
-    returns
-    add-after
-    returns-2
-    shared-slice-read-if3
-    shared-slice-read-result
-    returns-3
-    returns-4)
+    returns-then-file-at
+    overflow_add-after
+    returns-then-file-after
+    bounds-file-after
+    bounds-file-at
+    returns-then-file-after-eq-SPACE
+    returns-else-file-after-eq-SPACE)

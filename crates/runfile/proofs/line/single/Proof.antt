@@ -2,22 +2,22 @@ use borrow.Author.Tests.{eq-eqb, ne_eqb}
 use Rattle.runfile.proofs.line.single.Statement.{statement}
 use Rattle.runfile.proofs.line.single.Tie as tie
 
+returns-then-letter-eq78 : tie.Need-returns-then-letter-eq78
+returns-then-letter-eq78 c = simp (eq-eqb _ _ c.if-letter-eq78.true)
+
+returns-then-letter-eq71 : tie.Need-returns-then-letter-eq71
+returns-then-letter-eq71 c = simp (ne_eqb _ _ c.before.if-letter-eq78.false, eq-eqb _ _ c.if-letter-eq71.true)
+
+returns-then-letter-eq67 : tie.Need-returns-then-letter-eq67
+returns-then-letter-eq67 c = simp (ne_eqb _ _ c.before.before.if-letter-eq78.false, ne_eqb _ _ c.before.if-letter-eq71.false, eq-eqb _ _ c.if-letter-eq67.true)
+
+returns-then-letter-eq66 : tie.Need-returns-then-letter-eq66
+returns-then-letter-eq66 c = let g = c.before.before in
+    simp (ne_eqb _ _ g.before.if-letter-eq78.false, ne_eqb _ _ g.if-letter-eq71.false, ne_eqb _ _ c.before.if-letter-eq67.false, eq-eqb _ _ c.if-letter-eq66.true)
+
 returns : tie.Need-returns
-returns c = simp (eq-eqb _ _ c.if1.true)
-
-returns-2 : tie.Need-returns-2
-returns-2 c = simp (ne_eqb _ _ c.before.if1.false, eq-eqb _ _ c.if2.true)
-
-returns-3 : tie.Need-returns-3
-returns-3 c = simp (ne_eqb _ _ c.before.before.if1.false, ne_eqb _ _ c.before.if2.false, eq-eqb _ _ c.if3.true)
-
-returns-4 : tie.Need-returns-4
-returns-4 c = let g = c.before.before in
-    simp (ne_eqb _ _ g.before.if1.false, ne_eqb _ _ g.if2.false, ne_eqb _ _ c.before.if3.false, eq-eqb _ _ c.if4.true)
-
-returns-5 : tie.Need-returns-5
-returns-5 c = let g = c.before.before in
-    simp (ne_eqb _ _ g.before.if1.false, ne_eqb _ _ g.if2.false, ne_eqb _ _ c.before.if3.false, ne_eqb _ _ c.if4.false)
+returns c = let g = c.before.before in
+    simp (ne_eqb _ _ g.before.if-letter-eq78.false, ne_eqb _ _ g.if-letter-eq71.false, ne_eqb _ _ c.before.if-letter-eq67.false, ne_eqb _ _ c.if-letter-eq66.false)
 
 pub single_spec : {M : Type 1} → statement M
-single_spec = tie.close (tie.spec returns returns-2 returns-3 returns-4 returns-5)
+single_spec = tie.close (tie.spec returns-then-letter-eq78 returns-then-letter-eq71 returns-then-letter-eq67 returns-then-letter-eq66 returns)

@@ -13,51 +13,51 @@ use Rattle.store.proofs.Store.open.Tie as tie
 openable-requires : tie.Need-openable-requires
 openable-requires c κs = search rules
 
-with-objects-requires : tie.Need-with-objects-requires
-with-objects-requires c κs = search rules
+with_objects-requires : tie.Need-with_objects-requires
+with_objects-requires c κs = search rules
 
 refused-requires : tie.Need-refused-requires
 refused-requires c κs = search rules
 
-returns : tie.Need-returns
-returns c =
+returns-then-not-openable : tie.Need-returns-then-not-openable
+returns-then-not-openable c =
     let a = c.before.before.before in
     let g = a.before.before.args in
-    ap₂ reply_of c.before.with-objects.ensures c.refused.ensures
-    ∙ open_refused g.kinds.now g.openings.now _ a.openable.ensures (not-true _ c.before.before.if1.true)
+    ap₂ reply_of c.before.with_objects.ensures c.refused.ensures
+    ∙ open_refused g.kinds.now g.openings.now _ a.openable.ensures (not-true _ c.before.before.if-not-openable.true-raw)
 
-fits : (e : tie.Else1) → let g = e.before.before.before.args in openable g.kinds.now g.openings.now ≡ true
-fits e = sym e.before.openable.ensures ∙ not-false _ e.if1.false
+fits : (e : tie.Else-not-openable) → let g = e.before.before.before.args in openable g.kinds.now g.openings.now ≡ true
+fits e = sym e.before.openable.ensures ∙ not-false _ e.if-not-openable.false-raw
 
-kind-column-requires : tie.Need-kind-column-requires
-kind-column-requires c κs = let g = c.before.before.before.args in few g.kinds.now g.openings.now (fits c)
+kind_column-requires : tie.Need-kind_column-requires
+kind_column-requires c κs = let g = c.before.before.before.args in few g.kinds.now g.openings.now (fits c)
 
-opening-column-requires : tie.Need-opening-column-requires
-opening-column-requires c κs = let g = c.before.before.before.before.args in omega (arith, few g.kinds.now g.openings.now (fits c.before), even g.kinds.now g.openings.now (fits c.before))
+opening_column-requires : tie.Need-opening_column-requires
+opening_column-requires c κs = let g = c.before.before.before.before.args in omega (arith, few g.kinds.now g.openings.now (fits c.before), even g.kinds.now g.openings.now (fits c.before))
 
-with-objects-requires-2 : tie.Need-with-objects-requires-2
-with-objects-requires-2 c κs = search rules
+with_objects-store-requires : tie.Need-with_objects-store-requires
+with_objects-store-requires c κs = search rules
 
-cast-t13 : tie.Need-overflow-cast-t13
-cast-t13 c = let e = c.before.before.before in
+overflow_cast-result : tie.Need-overflow_cast-result
+overflow_cast-result c = let e = c.before.before.before in
     let g = e.before.before.before.args in omega (arith, few g.kinds.now g.openings.now (fits e))
 
-returns-2 : tie.Need-returns-2
-returns-2 c =
+returns : tie.Need-returns
+returns c =
     let e = c.before.before.before in
     let g = e.before.before.before.args in
-    open_done g.kinds.now g.openings.now true _ _ _ (sym (fits e)) refl c.with-objects2.ensures c.before.before.kind-column.ensures c.before.opening-column.ensures
+    open_done g.kinds.now g.openings.now true _ _ _ (sym (fits e)) refl c.with_objects-store.ensures c.before.before.kind_column.ensures c.before.opening_column.ensures
 
 pub open_spec : {M : Type 1} → statement M
 open_spec =
     tie.close
     (tie.spec
     openable-requires
-    with-objects-requires
+    with_objects-requires
     refused-requires
-    returns
-    kind-column-requires
-    opening-column-requires
-    with-objects-requires-2
-    cast-t13
-    returns-2)
+    returns-then-not-openable
+    kind_column-requires
+    opening_column-requires
+    with_objects-store-requires
+    overflow_cast-result
+    returns)

@@ -19,196 +19,196 @@ use Rattle.store.proofs.Store.respond.Statement.{statement}
 use Rattle.store.proofs.Store.respond.Tie as tie
 
 -- the store and the access, and what the code 0 says of them
-abbrev opening : tie.After-ask-code → tie.Start
+abbrev opening : tie.After-ask_code-code → tie.Start
 opening c = c.before.before.before.before.before.before.before
 
-abbrev S : tie.Else1 → Store
-S e = (opening e.before).args.t1
+abbrev S : tie.Else-code-ne0 → Store
+S e = (opening e.before).args.self
 
-abbrev T : tie.Else1 → ℕ
+abbrev T : tie.Else-code-ne0 → ℕ
 T e = (opening e.before).args.t
 
-code : (c : tie.After-ask-code) → c.ask_code.result ≡ first_code (ask_refusals (opening c).args.t1 (opening c).args.t)
+code : (c : tie.After-ask_code-code) → c.ask_code-code.result ≡ first_code (ask_refusals (opening c).args.self (opening c).args.t)
 code c = let g = (opening c).args in
-    ask_decides g.t1 g.t _ _ c.before.before.before.before.before.before.in-form.ensures c.ask_code.ensures
+    ask_decides g.t1 g.t _ _ c.before.before.before.before.before.before.in_form-fine.ensures c.ask_code-code.ensures
 
-none : (e : tie.Else1) → NoneHolds (ask_refusals (S e) (T e))
-none e = none_first (ask_refusals (S e) (T e)) refl (sym (code e.before) ∙ e.if1.false)
+none : (e : tie.Else-code-ne0) → NoneHolds (ask_refusals (S e) (T e))
+none e = none_first (ask_refusals (S e) (T e)) refl (sym (code e.before) ∙ e.if-code-ne0.false)
 
-access : (e : tie.Else1) → Askable (S e) (T e)
+access : (e : tie.Else-code-ne0) → Askable (S e) (T e)
 access e = askable (S e) (T e) (none e)
 
-in-form-requires : tie.Need-in-form-requires
-in-form-requires c κs = search rules
+in_form-fine-requires : tie.Need-in_form-fine-requires
+in_form-fine-requires c κs = search rules
 
-ask-code-requires : tie.Need-ask-code-requires
-ask-code-requires c κs = let d = c.before.before.before.before.before in finish_asks d.before.args.t1 _ d.in-form.ensures
+ask_code-code-requires : tie.Need-ask_code-code-requires
+ask_code-code-requires c κs = let d = c.before.before.before.before.before in finish_asks d.before.args.self _ d.in_form-fine.ensures
 
 refused-requires : tie.Need-refused-requires
 refused-requires c κs = search rules
 
-returns : tie.Need-returns
-returns c = let g = (opening c.before.before).args in
-    ap (reply_of g.t1) c.refused.ensures ∙ respond_refused g.t1 g.t _ (code c.before.before) c.before.if1.true
+returns-then-code-ne0 : tie.Need-returns-then-code-ne0
+returns-then-code-ne0 c = let g = (opening c.before.before).args in
+    ap (reply_of g.t1) c.refused.ensures ∙ respond_refused g.t1 g.t _ (code c.before.before) c.before.if-code-ne0.true
 
 asking-requires : tie.Need-asking-requires
 asking-requires c κs = ((access c).formed, (access c).known, (access c).asks)
 
-enum-known-asking : tie.Need-enum-known-asking
-enum-known-asking c = search rules
+enum_known-asking : tie.Need-enum_known-asking
+enum_known-asking c = search rules
 
-enum_told : tie.Need-enum-told
-enum_told c = search rules
+enum_told-1 : tie.Need-enum_told-1
+enum_told-1 c = search rules
 
-refused-requires-2 : tie.Need-refused-requires-2
-refused-requires-2 c κs = search rules
+refused-requires-in_default : tie.Need-refused-requires-in_default
+refused-requires-in_default c κs = search rules
 
-returns-2 : tie.Need-returns-2
-returns-2 c = let a = c.before.before.before in
+returns-in_default : tie.Need-returns-in_default
+returns-in_default c = let a = c.before.before.before in
     let e = a.before in
-    absurd (something_asked (S e) (T e) (access e) (sym c.before.enum_told.given.1 ∙ a.asking.ensures))
+    absurd (something_asked (S e) (T e) (access e) (sym c.before.enum_told-1.given.1 ∙ a.asking.ensures))
 
-wait-for-requires : tie.Need-wait-for-requires
-wait-for-requires c κs = let e = c.before.before.before.before in ((access e).formed, (access e).known, (access e).asks)
+wait_for-access-requires : tie.Need-wait_for-access-requires
+wait_for-access-requires c κs = let e = c.before.before.before.before in ((access e).formed, (access e).known, (access e).asks)
 
-add-if2 : tie.Need-overflow-add-if2
-add-if2 c = let e = c.before.before.before.before.before in omega (arith, (form_facts (S e) (access e).formed).tree.few)
+overflow_add-self : tie.Need-overflow_add-self
+overflow_add-self c = let e = c.before.before.before.before.before in omega (arith, (form_facts (S e) (access e).formed).tree.few)
 
 -- what was asked, and which access the search came to
-abbrev start : tie.After-wait-for → tie.Else1
+abbrev start : tie.After-wait_for-access → tie.Else-code-ne0
 start c = c.before.before.before.before.before
 
-asks : (c : tie.After-wait-for) → let e = start c in As c.before.before.asking2.given.0.0 ≡ asking_of (S e) (T e)
-asks c = sym c.before.before.asking2.given.1 ∙ c.before.before.before.before.asking.ensures
+asks : (c : tie.After-wait_for-access) → let e = start c in As c.before.before.asking-1.given.0.0 ≡ asking_of (S e) (T e)
+asks c = sym c.before.before.asking-1.given.1 ∙ c.before.before.before.before.asking.ensures
 
-row : (c : tie.Then2) → c.before.wait-for.result < rows_most
-row c = let e = start c.before in omega (arith, c.if2.true, (form_facts (S e) (access e).formed).tree.few)
+row : (c : tie.Then-access-self) → c.before.wait_for-access.result < rows_most
+row c = let e = start c.before in omega (arith, c.if-access-self.true, (form_facts (S e) (access e).formed).tree.few)
 
-at16-requires : tie.Need-at16-requires
-at16-requires c κs = row c.before.before
+at16-holder-requires : tie.Need-at16-holder-requires
+at16-holder-requires c κs = row c.before.before
 
-wait-answer-requires : tie.Need-wait-answer-requires
-wait-answer-requires c κs = let t = c.before.before.before in
+wait_answer-requires : tie.Need-wait_answer-requires
+wait_answer-requires c κs = let t = c.before.before.before in
     let e = start t.before in
     let f = form_facts (S e) (access e).formed in
-    (omega (arith, c.at16.ensures, f.tree.few, (listed_sound (S e) f).holders t.before.wait-for.result t.if2.true), row t)
+    (omega (arith, c.at16-holder.ensures, f.tree.few, (listed_sound (S e) f).holders t.before.wait_for-access.result t.if-access-self.true), row t)
 
-returns-3 : tie.Need-returns-3
-returns-3 c = let t = c.before.before.before.before in
+returns-then-access-self : tie.Need-returns-then-access-self
+returns-then-access-self c = let t = c.before.before.before.before in
     let e = start t.before in
     ap (reply_of (S e)) c.wait_answer.ensures
-    ∙ respond_waits (S e) (T e) (none e) _ (asks t.before) _ t.before.wait-for.ensures t.if2.true _ _ c.before.at16.ensures refl
+    ∙ respond_waits (S e) (T e) (none e) _ (asks t.before) _ t.before.wait_for-access.ensures t.if-access-self.true _ _ c.before.at16-holder.ensures refl
 
-numbers-of-requires : tie.Need-numbers-of-requires
-numbers-of-requires c κs = search rules
+numbers_of-result-requires : tie.Need-numbers_of-result-requires
+numbers_of-result-requires c κs = search rules
 
 -- the access has a row and a place, and its answer a byte
-row_of : (e : tie.Else1) → T e < rows_most
+row_of : (e : tie.Else-code-ne0) → T e < rows_most
 row_of e = let a = access e in (ready (S e) (T e) a.formed a.known a.asks).row
 
-place-of : (e : tie.Else1) → (S e).listed < places_most
+place-of : (e : tie.Else-code-ne0) → (S e).listed < places_most
 place-of e = has_place (S e) (T e) (access e)
 
-answer-of : (c : tie.After-numbers-of) → c.numbers_of.result.a < 255
-answer-of c = rw c.numbers_of.ensures (small_a c.before.before.before.before.asking2.given.0.0.outcome)
+answer-of : (c : tie.After-numbers_of-result) → c.numbers_of-result.result.a < 255
+answer-of c = rw c.numbers_of-result.ensures (small_a c.before.before.before.before.asking-1.given.0.0.outcome)
 
-abbrev begun : tie.After-numbers-of → tie.Else1
+abbrev begun : tie.After-numbers_of-result → tie.Else-code-ne0
 begun c = start c.before.before
 
-cast-self : tie.Need-overflow-cast-self
-cast-self c = omega (arith, answer-of c.before)
+overflow_cast-self : tie.Need-overflow_cast-self
+overflow_cast-self c = omega (arith, answer-of c.before)
 
-add-self : tie.Need-overflow-add-self
-add-self c = omega (arith, answer-of c.before)
+overflow_add-self-2 : tie.Need-overflow_add-self-2
+overflow_add-self-2 c = omega (arith, answer-of c.before)
 
-element-write-self : tie.Need-element-write-self
-element-write-self c = row_of (begun c.before)
+bounds-self-k : tie.Need-bounds-self-k
+bounds-self-k c = row_of (begun c.before)
 
-mul-b : tie.Need-overflow-mul-b
-mul-b c = omega (arith, row_of (begun c.before.before))
+offset_bounds-self-k : tie.Need-offset_bounds-self-k
+offset_bounds-self-k c = omega (arith, row_of (begun c.before.before))
 
-element-set-from-b : tie.Need-element-set-from-b
-element-set-from-b c = row_of (begun c.before.before)
+bounds-self-k-2 : tie.Need-bounds-self-k-2
+bounds-self-k-2 c = row_of (begun c.before.before)
 
-cast-self-2 : tie.Need-overflow-cast-self-2
-cast-self-2 c = omega (arith, row_of (begun c.before.before))
+overflow_cast-self-2 : tie.Need-overflow_cast-self-2
+overflow_cast-self-2 c = omega (arith, row_of (begun c.before.before))
 
-mul-self : tie.Need-overflow-mul-self
-mul-self c = omega (arith, place-of (begun c.before.before))
+offset_bounds-self-listed : tie.Need-offset_bounds-self-listed
+offset_bounds-self-listed c = omega (arith, place-of (begun c.before.before))
 
-element-write-self-2 : tie.Need-element-write-self-2
-element-write-self-2 c = place-of (begun c.before.before)
+bounds-self-listed : tie.Need-bounds-self-listed
+bounds-self-listed c = place-of (begun c.before.before)
 
-add-self-2 : tie.Need-overflow-add-self-2
-add-self-2 c = omega (arith, place-of (begun c.before.before))
+overflow_add-self-3 : tie.Need-overflow_add-self-3
+overflow_add-self-3 c = omega (arith, place-of (begun c.before.before))
 
-cast-self-3 : tie.Need-overflow-cast-self-3
-cast-self-3 c = omega (arith, row_of (begun c.before.before))
+overflow_cast-self-3 : tie.Need-overflow_cast-self-3
+overflow_cast-self-3 c = omega (arith, row_of (begun c.before.before))
 
-mul-self-2 : tie.Need-overflow-mul-self-2
-mul-self-2 c = omega (arith, row_of (begun c.before.before))
+offset_bounds-self-k-2 : tie.Need-offset_bounds-self-k-2
+offset_bounds-self-k-2 c = omega (arith, row_of (begun c.before.before))
 
-element-write-self-3 : tie.Need-element-write-self-3
-element-write-self-3 c = row_of (begun c.before.before)
+bounds-self-k-3 : tie.Need-bounds-self-k-3
+bounds-self-k-3 c = row_of (begun c.before.before)
 
-add-self-3 : tie.Need-overflow-add-self-3
-add-self-3 c = omega (arith, place-of (begun c.before.before))
+overflow_add-self-4 : tie.Need-overflow_add-self-4
+overflow_add-self-4 c = omega (arith, place-of (begun c.before.before))
 
-cast-self-4 : tie.Need-overflow-cast-self-4
-cast-self-4 c = omega (arith, place-of (begun c.before.before))
+overflow_cast-self-4 : tie.Need-overflow_cast-self-4
+overflow_cast-self-4 c = omega (arith, place-of (begun c.before.before))
 
-mul-self-3 : tie.Need-overflow-mul-self-3
-mul-self-3 c = omega (arith, row_of (begun c.before.before))
+offset_bounds-self-k-3 : tie.Need-offset_bounds-self-k-3
+offset_bounds-self-k-3 c = omega (arith, row_of (begun c.before.before))
 
-element-write-self-4 : tie.Need-element-write-self-4
-element-write-self-4 c = row_of (begun c.before.before)
+bounds-self-k-4 : tie.Need-bounds-self-k-4
+bounds-self-k-4 c = row_of (begun c.before.before)
 
-result-answer-requires : tie.Need-result-answer-requires
-result-answer-requires c κs = search rules
+result_answer-requires : tie.Need-result_answer-requires
+result_answer-requires c κs = search rules
 
-returns-4 : tie.Need-returns-4
-returns-4 c = let n = c.before.before.before in
+returns : tie.Need-returns
+returns c = let n = c.before.before.before in
     let l = n.before in
     let w = l.before in
     let e = start w in
-    rw (to_z-of_z (sfits_of c.before.struct_told.given.1.0.1))
-    (ap (reply_of (responded (S e) (T e) n.numbers_of.result)) c.result-answer.ensures
-    ∙ respond_done (S e) (T e) (none e) _ (asks w) _ w.wait-for.ensures l.if2.false _ _ _ n.numbers_of.ensures refl refl)
+    rw (to_z-of_z (sfits_of c.before.struct_told-1.given.1.0.1))
+    (ap (reply_of (responded (S e) (T e) n.numbers_of-result.result)) c.result_answer.ensures
+    ∙ respond_done (S e) (T e) (none e) _ (asks w) _ w.wait_for-access.ensures l.if-access-self.false _ _ _ n.numbers_of-result.ensures refl refl)
 
 pub respond_spec : {M : Type 1} → statement M
 respond_spec =
     tie.close
     (tie.spec
-    in-form-requires
-    ask-code-requires
+    in_form-fine-requires
+    ask_code-code-requires
     refused-requires
-    returns
+    returns-then-code-ne0
     asking-requires
-    enum-known-asking
-    enum_told
-    refused-requires-2
-    returns-2
-    wait-for-requires
-    add-if2
-    at16-requires
-    wait-answer-requires
-    returns-3
-    numbers-of-requires
-    cast-self
-    add-self
-    element-write-self
-    mul-b
-    element-set-from-b
-    cast-self-2
-    mul-self
-    element-write-self-2
-    add-self-2
-    cast-self-3
-    mul-self-2
-    element-write-self-3
-    add-self-3
-    cast-self-4
-    mul-self-3
-    element-write-self-4
-    result-answer-requires
-    returns-4)
+    enum_known-asking
+    enum_told-1
+    refused-requires-in_default
+    returns-in_default
+    wait_for-access-requires
+    overflow_add-self
+    at16-holder-requires
+    wait_answer-requires
+    returns-then-access-self
+    numbers_of-result-requires
+    overflow_cast-self
+    overflow_add-self-2
+    bounds-self-k
+    offset_bounds-self-k
+    bounds-self-k-2
+    overflow_cast-self-2
+    offset_bounds-self-listed
+    bounds-self-listed
+    overflow_add-self-3
+    overflow_cast-self-3
+    offset_bounds-self-k-2
+    bounds-self-k-3
+    overflow_add-self-4
+    overflow_cast-self-4
+    offset_bounds-self-k-3
+    bounds-self-k-4
+    result_answer-requires
+    returns)

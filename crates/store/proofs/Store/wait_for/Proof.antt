@@ -14,7 +14,7 @@ use Rattle.store.proofs.Store.wait_for.Statement.{statement}
 use Rattle.store.proofs.Store.wait_for.Tie as tie
 
 abbrev S : tie.Start → Store
-S g = g.args.t1
+S g = g.args.self
 
 abbrev T : tie.Start → ℕ
 T g = g.args.t
@@ -22,23 +22,23 @@ T g = g.args.t
 access : (g : tie.Start) → Ready (S g) (T g)
 access g = ready (S g) (T g) g.requires.0 g.requires.1 g.requires.2
 
-element-copy-out-o : tie.Need-element-copy-out-o
-element-copy-out-o c = (access c).row
+bounds-self-t : tie.Need-bounds-self-t
+bounds-self-t c = (access c).row
 
-wide8-requires : tie.Need-wide8-requires
-wide8-requires c κs = search rules
+wide8-object-requires : tie.Need-wide8-object-requires
+wide8-object-requires c κs = search rules
 
-element-copy-out-kind-of : tie.Need-element-copy-out-kind-of
-element-copy-out-kind-of c = omega (arith, c.wide8.ensures, (access c.before.before).small)
+bounds-self-object : tie.Need-bounds-self-object
+bounds-self-object c = omega (arith, c.wide8-object.ensures, (access c.before.before).small)
 
-kind-of-requires : tie.Need-kind-of-requires
-kind-of-requires c κs = search rules
+kind_of-kind-requires : tie.Need-kind_of-kind-requires
+kind_of-kind-requires c κs = search rules
 
-add-rows : tie.Need-overflow-add-rows
-add-rows c = omega (arith, (access c.before.before.before.before).form.tree.few)
+overflow_add-rows : tie.Need-overflow_add-rows
+overflow_add-rows c = omega (arith, (access c.before.before.before.before).form.tree.few)
 
-first-wait-requires : tie.Need-first-wait-requires
-first-wait-requires c κs = let g = c.before.before.before.before.before.before.before.before.before.before.before.before.before in
+first_wait-requires : tie.Need-first_wait-requires
+first_wait-requires c κs = let g = c.before.before.before.before.before.before.before.before.before.before.before.before.before in
     let a = access g in
     (omega (arith, a.form.tree.few), omega (arith, a.known), lower_rows (S g) a.form, (listed_sound (S g) a.form).holders)
 
@@ -47,16 +47,16 @@ returns c = let g = c.before.before.before.before.before.before.before.before.be
     let s = S g in
     c.first_wait.ensures
     ∙ ap (λ k. first_below (rows_of s) (blocks s.parent s.holder s.place s.object (record_in k s.operation s.argument s.outcome s.value) k (at s.object (T g)) (T g) g.args.asking))
-    (kind_is s (T g) _ c.before.before.before.before.before.before.before.before.before.before.before.before.wide8.ensures _ c.before.before.before.before.before.before.before.before.before.before.kind_of_lem.ensures)
+    (kind_is s (T g) _ c.before.before.before.before.before.before.before.before.before.before.before.before.wide8-object.ensures _ c.before.before.before.before.before.before.before.before.before.before.kind_of_lem.ensures)
 
 pub wait_for_spec : {M : Type 1} → statement M
 wait_for_spec =
     tie.close
     (tie.spec
-    element-copy-out-o
-    wide8-requires
-    element-copy-out-kind-of
-    kind-of-requires
-    add-rows
-    first-wait-requires
+    bounds-self-t
+    wide8-object-requires
+    bounds-self-object
+    kind_of-kind-requires
+    overflow_add-rows
+    first_wait-requires
     returns)

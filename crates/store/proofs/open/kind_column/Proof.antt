@@ -9,32 +9,32 @@ use Rattle.columns.specs.Column.{at}
 use Rattle.store.proofs.open.kind_column.Statement.{statement}
 use Rattle.store.proofs.open.kind_column.Tie as tie
 
-abbrev invariant-loop : tie.invariant-loop
+abbrev invariant-loop : tie.invariant-loop-i
 invariant-loop kinds column₀ i₀ column i = (i ≤ length kinds) × (column ≡ set_below i (at kinds) column₀)
 
-abbrev decreases-loop : tie.decreases-loop
+abbrev decreases-loop : tie.decreases-loop-i
 decreases-loop kinds column₀ i₀ column i = length kinds - i
 
-loop-holds : tie.Need-loop-init invariant-loop decreases-loop
-loop-holds c = (omega arith, set_start _ _)
+loop-i-init : tie.Need-loop-i-init invariant-loop decreases-loop
+loop-i-init c = (omega arith, set_start _ _)
 
-add-i : tie.Need-overflow-add-i invariant-loop decreases-loop
-add-i c = search rules
+overflow_add-i : tie.Need-overflow_add-i invariant-loop decreases-loop
+overflow_add-i c = search rules
 
-shared-slice-read-column : tie.Need-shared-slice-read-column invariant-loop decreases-loop
-shared-slice-read-column c = search rules
+bounds-kinds-k : tie.Need-bounds-kinds-k invariant-loop decreases-loop
+bounds-kinds-k c = search rules
 
-array-write-column : tie.Need-array-write-column invariant-loop decreases-loop
-array-write-column c = search rules
+bounds-column-k : tie.Need-bounds-column-k invariant-loop decreases-loop
+bounds-column-k c = search rules
 
-loop-less : tie.Need-loop-smaller invariant-loop decreases-loop
-loop-less c = search rules
+loop-i-smaller : tie.Need-loop-i-smaller invariant-loop decreases-loop
+loop-i-smaller c = search rules
 
-loop-again : tie.Need-loop-preserved invariant-loop decreases-loop
-loop-again c = (omega arith, set_store _ _ _ _ _ c.before.before.loop.invariant.1 refl)
+loop-i-preserved : tie.Need-loop-i-preserved invariant-loop decreases-loop
+loop-i-preserved c = (omega arith, set_store _ _ _ _ _ c.before.before.loop-i.invariant.1 refl)
 
 returns : tie.Need-returns invariant-loop decreases-loop
-returns c = set_end _ _ _ _ _ c.before.loop.invariant.1 c.before.loop.invariant.0 (omega arith)
+returns c = set_end _ _ _ _ _ c.before.loop-i.invariant.1 c.before.loop-i.invariant.0 (omega arith)
 
 pub kind_column_spec : {M : Type 1} → statement M
 kind_column_spec =
@@ -42,10 +42,10 @@ kind_column_spec =
     (tie.spec
     invariant-loop
     decreases-loop
-    loop-holds
-    add-i
-    shared-slice-read-column
-    array-write-column
-    loop-less
-    loop-again
+    loop-i-init
+    overflow_add-i
+    bounds-kinds-k
+    bounds-column-k
+    loop-i-smaller
+    loop-i-preserved
     returns)

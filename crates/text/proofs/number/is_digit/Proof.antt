@@ -2,11 +2,11 @@ use borrow.Author.Tests.{le-leb, lt-leb}
 use Rattle.text.proofs.number.is_digit.Statement.{statement}
 use Rattle.text.proofs.number.is_digit.Tie as tie
 
-returns : tie.Need-returns
-returns c = simp (le-leb _ _ c.if1.true)
+returns-then-b-ge48 : tie.Need-returns-then-b-ge48
+returns-then-b-ge48 c = simp (le-leb _ _ c.if-b-ge48.true)
 
-returns-2 : tie.Need-returns-2
-returns-2 c = simp (lt-leb _ _ c.if1.false)
+returns-else-b-ge48 : tie.Need-returns-else-b-ge48
+returns-else-b-ge48 c = simp (lt-leb _ _ c.if-b-ge48.false)
 
 pub is_digit_spec : {M : Type 1} → statement M
-is_digit_spec = tie.close (tie.spec returns returns-2)
+is_digit_spec = tie.close (tie.spec returns-then-b-ge48 returns-else-b-ge48)

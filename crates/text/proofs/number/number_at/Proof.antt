@@ -11,102 +11,102 @@ use Rattle.text.proofs.Numbers.{byte_more, number_end, number_start, rest_end, r
 use Rattle.text.proofs.number.number_at.Statement.{statement}
 use Rattle.text.proofs.number.number_at.Tie as tie
 
-abbrev invariant-loop : tie.invariant-loop
+abbrev invariant-loop : tie.invariant-loop-i
 invariant-loop file at stop first v₀ i₀ v i = (i ≤ length file) × (v ≤ number_most) × (number_at stop file at ≡ rest_of stop (drop i file) v i)
 
-abbrev decreases-loop : tie.decreases-loop
+abbrev decreases-loop : tie.decreases-loop-i
 decreases-loop file at stop first v₀ i₀ v i = length file - i
 
-first-digit : (e : tie.Else2 invariant-loop decreases-loop) → let a = e.before.before.before.before.before.args in is_digit (get_or a.file.now a.at 0) ≡ true
-first-digit e = sym e.before.is_digit.ensures ∙ not-false _ e.if2.false
+first-digit : (e : tie.Else-not-is_digit invariant-loop decreases-loop) → let a = e.before.before.before.before.before.args in is_digit (get_or a.file.now a.at 0) ≡ true
+first-digit e = sym e.before.is_digit.ensures ∙ not-false _ e.if-not-is_digit.false-raw
 
 -- one turn: the byte at hand decides
-turn : (e : tie.In-loop invariant-loop decreases-loop) → let a = e.before.before.before.before.before.before.before.before.args in
-    number_at a.stop a.file.now a.at ≡ byte_more a.stop a.file.now e.before.loop.v e.before.loop.i
-turn e = e.before.loop.invariant.2 ∙ rest_step _ _ _ _ e.loop-test.true
+turn : (e : tie.In-loop-i invariant-loop decreases-loop) → let a = e.before.before.before.before.before.before.before.before.args in
+    number_at a.stop a.file.now a.at ≡ byte_more a.stop a.file.now e.before.loop-i.v e.before.loop-i.i
+turn e = e.before.loop-i.invariant.2 ∙ rest_step _ _ _ _ e.loop-i-test.true
 
 -- and here it is a digit
-abbrev byte : tie.Else4 invariant-loop decreases-loop → ℕ
-byte e = get_or e.before.before.before.before.before.before.before.before.before.before.before.before.args.file.now e.before.before.before.before.before.loop.i 0
+abbrev byte : tie.Else-not-is_digit-2 invariant-loop decreases-loop → ℕ
+byte e = get_or e.before.before.before.before.before.before.before.before.before.before.before.before.args.file.now e.before.before.before.before.before.loop-i.i 0
 
-digit : (e : tie.Else4 invariant-loop decreases-loop) → is_digit (byte e) ≡ true
-digit e = sym e.before.is-digit2.ensures ∙ not-false _ e.if4.false
+digit : (e : tie.Else-not-is_digit-2 invariant-loop decreases-loop) → is_digit (byte e) ≡ true
+digit e = sym e.before.is_digit-in-loop-i.ensures ∙ not-false _ e.if-not-is_digit-2.false-raw
 
-returns : tie.Need-returns invariant-loop decreases-loop
-returns c = sym (number_end _ _ _ c.if1.true)
+returns-then-file-at : tie.Need-returns-then-file-at invariant-loop decreases-loop
+returns-then-file-at c = sym (number_end _ _ _ c.if-file-at.true)
 
-shared-slice-read-first : tie.Need-shared-slice-read-first invariant-loop decreases-loop
-shared-slice-read-first c = search rules
+bounds-file-at : tie.Need-bounds-file-at invariant-loop decreases-loop
+bounds-file-at c = search rules
 
-is-digit-requires : tie.Need-is-digit-requires invariant-loop decreases-loop
-is-digit-requires c κs = search rules
+is_digit-requires : tie.Need-is_digit-requires invariant-loop decreases-loop
+is_digit-requires c κs = search rules
 
-returns-2 : tie.Need-returns-2 invariant-loop decreases-loop
-returns-2 c = sym (number_start _ _ _ c.before.before.before.if1.false ∙ simp (sym c.before.is_digit.ensures ∙ not-true _ c.if2.true))
+returns-then-not-is_digit : tie.Need-returns-then-not-is_digit invariant-loop decreases-loop
+returns-then-not-is_digit c = sym (number_start _ _ _ c.before.before.before.if-file-at.false ∙ simp (sym c.before.is_digit.ensures ∙ not-true _ c.if-not-is_digit.true-raw))
+
+wide-v-requires : tie.Need-wide-v-requires invariant-loop decreases-loop
+wide-v-requires c κs = search rules
+
+overflow_sub-v : tie.Need-overflow_sub-v invariant-loop decreases-loop
+overflow_sub-v c = let d = c.before in omega (arith, digit_low (get_or d.before.before.before.before.before.args.file.now d.before.before.before.before.before.args.at 0) (first-digit d))
+
+overflow_add-i : tie.Need-overflow_add-i invariant-loop decreases-loop
+overflow_add-i c = search rules
+
+loop-i-init : tie.Need-loop-i-init invariant-loop decreases-loop
+loop-i-init c = let d = c.before in
+    (search rules, omega (arith, digit_high (get_or d.before.before.before.before.before.args.file.now d.before.before.before.before.before.args.at 0) (first-digit d)), rw c.wide-v.ensures (number_start _ _ _ d.before.before.before.if-file-at.false ∙ simp (first-digit d)))
+
+bounds-file-i : tie.Need-bounds-file-i invariant-loop decreases-loop
+bounds-file-i c = search rules
+
+overflow_cast-result : tie.Need-overflow_cast-result invariant-loop decreases-loop
+overflow_cast-result c = search rules
+
+overflow_add-result : tie.Need-overflow_add-result invariant-loop decreases-loop
+overflow_add-result c = search rules
+
+returns-then-b-stop : tie.Need-returns-then-b-stop invariant-loop decreases-loop
+returns-then-b-stop c = sym (turn c.before.before ∙ simp (eq-eqb _ _ c.if-b-stop.true))
+
+is_digit-requires-in-loop-i : tie.Need-is_digit-requires-in-loop-i invariant-loop decreases-loop
+is_digit-requires-in-loop-i c κs = search rules
+
+returns-then-not-is_digit-2 : tie.Need-returns-then-not-is_digit-2 invariant-loop decreases-loop
+returns-then-not-is_digit-2 c = sym (turn c.before.before.before.before ∙ simp (ne_eqb _ _ c.before.before.if-b-stop.false, sym c.before.is_digit-in-loop-i.ensures ∙ not-true _ c.if-not-is_digit-2.true-raw))
+
+returns-then-v-eq0 : tie.Need-returns-then-v-eq0 invariant-loop decreases-loop
+returns-then-v-eq0 c = let e = c.before in
+    sym (turn e.before.before.before.before ∙ simp (ne_eqb _ _ e.before.before.if-b-stop.false, digit e, eq-eqb _ _ c.if-v-eq0.true))
+
+overflow_mul-next : tie.Need-overflow_mul-next invariant-loop decreases-loop
+overflow_mul-next c = search rules
 
 wide-requires : tie.Need-wide-requires invariant-loop decreases-loop
 wide-requires c κs = search rules
 
-sub-v : tie.Need-overflow-sub-v invariant-loop decreases-loop
-sub-v c = let d = c.before in omega (arith, digit_low (get_or d.before.before.before.before.before.args.file.now d.before.before.before.before.before.args.at 0) (first-digit d))
+overflow_sub-next : tie.Need-overflow_sub-next invariant-loop decreases-loop
+overflow_sub-next c = let e = c.before.before in omega (arith, digit_low (byte e) (digit e))
 
-add-i : tie.Need-overflow-add-i invariant-loop decreases-loop
-add-i c = search rules
+overflow_add-next : tie.Need-overflow_add-next invariant-loop decreases-loop
+overflow_add-next c = let e = c.before.before in omega (arith, digit_high (byte e) (digit e))
 
-loop-holds : tie.Need-loop-init invariant-loop decreases-loop
-loop-holds c = let d = c.before in
-    (search rules, omega (arith, digit_high (get_or d.before.before.before.before.before.args.file.now d.before.before.before.before.before.args.at 0) (first-digit d)), rw c.wide.ensures (number_start _ _ _ d.before.before.before.if1.false ∙ simp (first-digit d)))
+returns-then-next-gt-MOST : tie.Need-returns-then-next-gt-MOST invariant-loop decreases-loop
+returns-then-next-gt-MOST c = let e = c.before.before.before in
+    sym (turn e.before.before.before.before ∙ simp (ne_eqb _ _ e.before.before.if-b-stop.false, digit e, ne_eqb _ _ c.before.before.if-v-eq0.false, ← c.before.wide.ensures, lt-ltb _ _ c.if-next-gt-MOST.true))
 
-shared-slice-read-b : tie.Need-shared-slice-read-b invariant-loop decreases-loop
-shared-slice-read-b c = search rules
+overflow_add-i-in-loop-i : tie.Need-overflow_add-i-in-loop-i invariant-loop decreases-loop
+overflow_add-i-in-loop-i c = search rules
 
-cast-t19 : tie.Need-overflow-cast-t19 invariant-loop decreases-loop
-cast-t19 c = search rules
+loop-i-smaller : tie.Need-loop-i-smaller invariant-loop decreases-loop
+loop-i-smaller c = search rules
 
-add-t20 : tie.Need-overflow-add-t20 invariant-loop decreases-loop
-add-t20 c = search rules
+loop-i-preserved : tie.Need-loop-i-preserved invariant-loop decreases-loop
+loop-i-preserved c = let e = c.before.before.before in
+    (search rules, search rules, rw c.before.wide.ensures (turn e.before.before.before.before ∙ simp (ne_eqb _ _ e.before.before.if-b-stop.false, digit e, ne_eqb _ _ c.before.before.if-v-eq0.false, le-ltb _ _ (rw c.before.wide.ensures at c.if-next-gt-MOST.false))))
 
-returns-3 : tie.Need-returns-3 invariant-loop decreases-loop
-returns-3 c = sym (turn c.before.before ∙ simp (eq-eqb _ _ c.if3.true))
-
-is-digit-requires-2 : tie.Need-is-digit-requires-2 invariant-loop decreases-loop
-is-digit-requires-2 c κs = search rules
-
-returns-4 : tie.Need-returns-4 invariant-loop decreases-loop
-returns-4 c = sym (turn c.before.before.before.before ∙ simp (ne_eqb _ _ c.before.before.if3.false, sym c.before.is-digit2.ensures ∙ not-true _ c.if4.true))
-
-returns-5 : tie.Need-returns-5 invariant-loop decreases-loop
-returns-5 c = let e = c.before in
-    sym (turn e.before.before.before.before ∙ simp (ne_eqb _ _ e.before.before.if3.false, digit e, eq-eqb _ _ c.if5.true))
-
-mul_next : tie.Need-overflow-mul-next invariant-loop decreases-loop
-mul_next c = search rules
-
-wide-requires-2 : tie.Need-wide-requires-2 invariant-loop decreases-loop
-wide-requires-2 c κs = search rules
-
-sub-next : tie.Need-overflow-sub-next invariant-loop decreases-loop
-sub-next c = let e = c.before.before in omega (arith, digit_low (byte e) (digit e))
-
-add-next : tie.Need-overflow-add-next invariant-loop decreases-loop
-add-next c = let e = c.before.before in omega (arith, digit_high (byte e) (digit e))
-
-returns-6 : tie.Need-returns-6 invariant-loop decreases-loop
-returns-6 c = let e = c.before.before.before in
-    sym (turn e.before.before.before.before ∙ simp (ne_eqb _ _ e.before.before.if3.false, digit e, ne_eqb _ _ c.before.before.if5.false, ← c.before.wide2.ensures, lt-ltb _ _ c.if6.true))
-
-add-i-2 : tie.Need-overflow-add-i-2 invariant-loop decreases-loop
-add-i-2 c = search rules
-
-loop-less : tie.Need-loop-smaller invariant-loop decreases-loop
-loop-less c = search rules
-
-loop-again : tie.Need-loop-preserved invariant-loop decreases-loop
-loop-again c = let e = c.before.before.before in
-    (search rules, search rules, rw c.before.wide2.ensures (turn e.before.before.before.before ∙ simp (ne_eqb _ _ e.before.before.if3.false, digit e, ne_eqb _ _ c.before.before.if5.false, le-ltb _ _ (rw c.before.wide2.ensures at c.if6.false))))
-
-returns-7 : tie.Need-returns-7 invariant-loop decreases-loop
-returns-7 c = sym (c.before.loop.invariant.2 ∙ rest_end _ _ _ _ c.loop-test.false)
+returns : tie.Need-returns invariant-loop decreases-loop
+returns c = sym (c.before.loop-i.invariant.2 ∙ rest_end _ _ _ _ c.loop-i-test.false)
 
 pub number_at_spec : {M : Type 1} → statement M
 number_at_spec =
@@ -114,27 +114,27 @@ number_at_spec =
     (tie.spec
     invariant-loop
     decreases-loop
-    returns
-    shared-slice-read-first
-    is-digit-requires
-    returns-2
+    returns-then-file-at
+    bounds-file-at
+    is_digit-requires
+    returns-then-not-is_digit
+    wide-v-requires
+    overflow_sub-v
+    overflow_add-i
+    loop-i-init
+    bounds-file-i
+    overflow_cast-result
+    overflow_add-result
+    returns-then-b-stop
+    is_digit-requires-in-loop-i
+    returns-then-not-is_digit-2
+    returns-then-v-eq0
+    overflow_mul-next
     wide-requires
-    sub-v
-    add-i
-    loop-holds
-    shared-slice-read-b
-    cast-t19
-    add-t20
-    returns-3
-    is-digit-requires-2
-    returns-4
-    returns-5
-    mul_next
-    wide-requires-2
-    sub-next
-    add-next
-    returns-6
-    add-i-2
-    loop-less
-    loop-again
-    returns-7)
+    overflow_sub-next
+    overflow_add-next
+    returns-then-next-gt-MOST
+    overflow_add-i-in-loop-i
+    loop-i-smaller
+    loop-i-preserved
+    returns)

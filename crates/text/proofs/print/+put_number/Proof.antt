@@ -29,43 +29,43 @@ abbrev calls : ℕ → put-number-lts.Claims
 calls t =
     (glyph-reads.Asked, glyph-reads.Learnt, put-byte-reads.Asked, put-byte-reads.Learnt, put_number_below t, put-number.Post)
 
-put_number_glyph_requires : (t : ℕ) → put-number-lts.Need-glyph-requires (calls t) (put_number_at t) put-number.Post
-put_number_glyph_requires t c κs = search rules
+glyph-requires : (t : ℕ) → put-number-lts.Need-glyph-requires (calls t) (put_number_at t) put-number.Post
+glyph-requires t c κs = search rules
 
-put_number_put_byte_requires : (t : ℕ) → put-number-lts.Need-put-byte-requires (calls t) (put_number_at t) put-number.Post
-put_number_put_byte_requires t c κs = omega (arith, ap length (decimal_small c.before.before.before.before.args.n c.before.before.if1.true))
+put_byte-requires : (t : ℕ) → put-number-lts.Need-put_byte-requires (calls t) (put_number_at t) put-number.Post
+put_byte-requires t c κs = omega (arith, ap length (decimal_small c.before.before.before.before.args.n c.before.before.if-n-lt10.true))
 
-put_number_same_length : (t : ℕ) → put-number-lts.Need-same-length (calls t) (put_number_at t) put-number.Post
-put_number_same_length t c = c.before.before.put_byte.auto.0
+shape_of-out-then-n-lt10 : (t : ℕ) → put-number-lts.Need-shape_of-out-then-n-lt10 (calls t) (put_number_at t) put-number.Post
+shape_of-out-then-n-lt10 t c = c.before.before.put_byte.auto.0
 
-put_number_returns : (t : ℕ) → put-number-lts.Need-returns (calls t) (put_number_at t) put-number.Post
-put_number_returns t c = rw (decimal_small _ c.before.before.before.before.before.if1.true, ← c.before.before.before.glyph.ensures) c.before.before.put_byte.ensures
+returns-then-n-lt10 : (t : ℕ) → put-number-lts.Need-returns-then-n-lt10 (calls t) (put_number_at t) put-number.Post
+returns-then-n-lt10 t c = rw (decimal_small _ c.before.before.before.before.before.if-n-lt10.true, ← c.before.before.before.glyph.ensures) c.before.before.put_byte.ensures
 
-put_number_put_number_requires : (t : ℕ) → put-number-lts.Need-put-number-requires (calls t) (put_number_at t) put-number.Post
-put_number_put_number_requires t c κs = (omega arith, omega (arith, simp length-append at (ap length (decimal_more c.before.before.before.args.n c.before.if1.false))))
+put_number-next-requires : (t : ℕ) → put-number-lts.Need-put_number-next-requires (calls t) (put_number_at t) put-number.Post
+put_number-next-requires t c κs = (omega arith, omega (arith, simp length-append at (ap length (decimal_more c.before.before.before.args.n c.before.if-n-lt10.false))))
 
-put_number_glyph_requires_2 : (t : ℕ) → put-number-lts.Need-glyph-requires-2 (calls t) (put_number_at t) put-number.Post
-put_number_glyph_requires_2 t c κs = search rules
+glyph-requires-2 : (t : ℕ) → put-number-lts.Need-glyph-requires-2 (calls t) (put_number_at t) put-number.Post
+glyph-requires-2 t c κs = search rules
 
-put_number_put_byte_requires_2 : (t : ℕ) → put-number-lts.Need-put-byte-requires-2 (calls t) (put_number_at t) put-number.Post
-put_number_put_byte_requires_2 t c κs = omega (arith, c.before.before.before.before.put-number.ensures.next, c.before.before.before.before.put-number.auto.0, simp length-append at (ap length (decimal_more c.before.before.before.before.before.before.before.before.args.n c.before.before.before.before.before.before.if1.false)))
+put_byte-requires-2 : (t : ℕ) → put-number-lts.Need-put_byte-requires-2 (calls t) (put_number_at t) put-number.Post
+put_byte-requires-2 t c κs = omega (arith, c.before.before.before.before.put_number-next.ensures.next, c.before.before.before.before.put_number-next.auto.0, simp length-append at (ap length (decimal_more c.before.before.before.before.before.before.before.before.args.n c.before.before.before.before.before.before.if-n-lt10.false)))
 
-put_number_same_length_2 : (t : ℕ) → put-number-lts.Need-same-length-2 (calls t) (put_number_at t) put-number.Post
-put_number_same_length_2 t c = c.before.before.put-byte2.auto.0 ∙ c.before.before.before.before.before.before.before.put-number.auto.0
+shape_of-out : (t : ℕ) → put-number-lts.Need-shape_of-out (calls t) (put_number_at t) put-number.Post
+shape_of-out t c = c.before.before.put_byte-2.auto.0 ∙ c.before.before.before.before.before.before.before.put_number-next.auto.0
 
-put_number_returns_2 : (t : ℕ) → put-number-lts.Need-returns-2 (calls t) (put_number_at t) put-number.Post
-put_number_returns_2 t c = rw (decimal_more _ c.before.before.before.before.before.before.before.before.before.if1.false) (put_then c.before.before.before.before.before.before.before.put-number.ensures (rw c.before.before.before.glyph2.ensures at c.before.before.put-byte2.ensures))
+returns : (t : ℕ) → put-number-lts.Need-returns (calls t) (put_number_at t) put-number.Post
+returns t c = rw (decimal_more _ c.before.before.before.before.before.before.before.before.before.if-n-lt10.false) (put_then c.before.before.before.before.before.before.before.put_number-next.ensures (rw c.before.before.before.glyph-2.ensures at c.before.before.put_byte-2.ensures))
 
 pub +put_number_spec : {M : Type 1} → statement M
 +put_number_spec = close μ_put_number λ t. put-number-lts.spec (calls t)
     (put_number_at t)
     put-number.Post
-    (put_number_glyph_requires t)
-    (put_number_put_byte_requires t)
-    (put_number_same_length t)
-    (put_number_returns t)
-    (put_number_put_number_requires t)
-    (put_number_glyph_requires_2 t)
-    (put_number_put_byte_requires_2 t)
-    (put_number_same_length_2 t)
-    (put_number_returns_2 t)
+    (glyph-requires t)
+    (put_byte-requires t)
+    (shape_of-out-then-n-lt10 t)
+    (returns-then-n-lt10 t)
+    (put_number-next-requires t)
+    (glyph-requires-2 t)
+    (put_byte-requires-2 t)
+    (shape_of-out t)
+    (returns t)

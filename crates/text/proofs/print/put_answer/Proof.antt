@@ -18,30 +18,30 @@ room c = answer_room c.args.code c.args.a c.args.b (omega arith) (omega arith) c
 b-told : (c : tie.Start) → to_z w64 (of_z w64 c.args.b) ≡ c.args.b
 b-told c = to_z-of_z w64 c.args.b c.ranges.b
 
-put-number-requires : tie.Need-put-number-requires
-put-number-requires c κs = omega (arith, room c.before.before)
+put_number-code_end-requires : tie.Need-put_number-code_end-requires
+put_number-code_end-requires c κs = omega (arith, room c.before.before)
 
-put-byte-requires : tie.Need-put-byte-requires
-put-byte-requires c κs = omega (arith, room c.before.before.before.before.before.before)
+put_byte-a_at-requires : tie.Need-put_byte-a_at-requires
+put_byte-a_at-requires c κs = omega (arith, room c.before.before.before.before.before.before)
 
-put-number-requires-2 : tie.Need-put-number-requires-2
-put-number-requires-2 c κs = omega (arith, room c.before.before.before.before.before.before.before.before.before.before)
+put_number-a_end-requires : tie.Need-put_number-a_end-requires
+put_number-a_end-requires c κs = omega (arith, room c.before.before.before.before.before.before.before.before.before.before)
 
-put-byte-requires-2 : tie.Need-put-byte-requires-2
-put-byte-requires-2 c κs =
+put_byte-b_at-requires : tie.Need-put_byte-b_at-requires
+put_byte-b_at-requires c κs =
     omega (arith, room c.before.before.before.before.before.before.before.before.before.before.before.before.before.before)
 
-put-signed-requires : tie.Need-put-signed-requires
-put-signed-requires c κs =
+put_signed-b_end-requires : tie.Need-put_signed-b_end-requires
+put_signed-b_end-requires c κs =
     let s : tie.Start = c.before.before.before.before.before.before.before.before.before.before.before.before.before.before.before.before.before.before in
     rw (b-told s) (omega (arith, room s))
 
-put-byte-requires-3 : tie.Need-put-byte-requires-3
-put-byte-requires-3 c κs =
-    omega (arith, room c.before.before.before.before.before.before.before.before.before.before.before.before.before.before.before.before.before.before.before.before.before.before, c.before.before.before.put-signed.ensures.next, ap (λ (z : ℤ). length (signed_text z)) (b-told c.before.before.before.before.before.before.before.before.before.before.before.before.before.before.before.before.before.before.before.before.before.before))
+put_byte-requires : tie.Need-put_byte-requires
+put_byte-requires c κs =
+    omega (arith, room c.before.before.before.before.before.before.before.before.before.before.before.before.before.before.before.before.before.before.before.before.before.before, c.before.before.before.put_signed-b_end.ensures.next, ap (λ (z : ℤ). length (signed_text z)) (b-told c.before.before.before.before.before.before.before.before.before.before.before.before.before.before.before.before.before.before.before.before.before.before))
 
-same_length : tie.Need-same-length
-same_length c = search rules
+shape_of-out : tie.Need-shape_of-out
+shape_of-out c = search rules
 
 returns : tie.Need-returns
 returns c =
@@ -52,20 +52,20 @@ returns c =
     let p2 = p3.before.before.before.before in
     let p1 = p2.before.before.before.before in
     let s : tie.Start = p1.before.before.before in
-    put_then (put_then (put_then (put_then (put_then p1.put-number.ensures p2.put_byte.ensures) p3.put-number2.ensures)
-    p4.put-byte2.ensures)
-    (rw (b-told s) at p5.put-signed.ensures))
-    p6.put-byte3.ensures
+    put_then (put_then (put_then (put_then (put_then p1.put_number-code_end.ensures p2.put_byte-a_at.ensures) p3.put_number-a_end.ensures)
+    p4.put_byte-b_at.ensures)
+    (rw (b-told s) at p5.put_signed-b_end.ensures))
+    p6.put_byte.ensures
 
 pub put_answer_spec : {M : Type 1} → statement M
 put_answer_spec =
     tie.close
     (tie.spec
-    put-number-requires
-    put-byte-requires
-    put-number-requires-2
-    put-byte-requires-2
-    put-signed-requires
-    put-byte-requires-3
-    same_length
+    put_number-code_end-requires
+    put_byte-a_at-requires
+    put_number-a_end-requires
+    put_byte-b_at-requires
+    put_signed-b_end-requires
+    put_byte-requires
+    shape_of-out
     returns)

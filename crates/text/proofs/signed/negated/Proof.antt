@@ -16,16 +16,16 @@ negative_fits (suc v) h = record { sfits = omega arith }
 -- the code's step: zero less the number
 opposite : (c : tie.After-widened) → pos 0 -ℤ to_z w64 (of_z w64 c.widened.result) ≡ neg_ℤ (pos c.before.args.v)
 opposite c =
-    rw (to_z-of_z w64 c.widened.result (record { sfits = c.widened.type-inv }), c.widened.ensures) (+ℤ_idl (neg_ℤ (pos c.before.args.v)))
+    rw (to_z-of_z w64 c.widened.result (record { sfits = c.widened.type_inv }), c.widened.ensures) (+ℤ_idl (neg_ℤ (pos c.before.args.v)))
 
 widened-requires : tie.Need-widened-requires
 widened-requires c κs = search rules
 
-sub-result : tie.Need-overflow-sub-result
-sub-result c = rw (opposite c) (negative_fits c.before.args.v (omega arith))
+overflow_sub-result : tie.Need-overflow_sub-result
+overflow_sub-result c = rw (opposite c) (negative_fits c.before.args.v (omega arith))
 
 returns : tie.Need-returns
 returns c = rw (opposite c) (to_z-of_z w64 _ (negative_fits c.before.args.v (omega arith)))
 
 pub negated_spec : {M : Type 1} → statement M
-negated_spec = tie.close (tie.spec widened-requires sub-result returns)
+negated_spec = tie.close (tie.spec widened-requires overflow_sub-result returns)

@@ -6,52 +6,52 @@ use Rattle.text.proofs.Numbers.{signed_end, signed_minus, signed_other}
 use Rattle.text.proofs.signed.signed_at.Statement.{statement}
 use Rattle.text.proofs.signed.signed_at.Tie as tie
 
-returns : tie.Need-returns
-returns c = sym (signed_end _ _ _ c.if1.true)
+returns-then-file-at : tie.Need-returns-then-file-at
+returns-then-file-at c = sym (signed_end _ _ _ c.if-file-at.true)
 
-shared-slice-read-if2 : tie.Need-shared-slice-read-if2
-shared-slice-read-if2 c = search rules
+bounds-file-at : tie.Need-bounds-file-at
+bounds-file-at c = search rules
 
-add-negative-at : tie.Need-overflow-add-negative-at
-add-negative-at c = search rules
+overflow_add-at : tie.Need-overflow_add-at
+overflow_add-at c = search rules
 
-negative-at-requires : tie.Need-negative-at-requires
-negative-at-requires c κs = search rules
+negative_at-requires : tie.Need-negative_at-requires
+negative_at-requires c κs = search rules
 
-returns-2 : tie.Need-returns-2
-returns-2 c = c.negative-at.ensures ∙ sym (signed_minus _ _ _ c.before.if2.true)
+returns-then-file-at-eq45 : tie.Need-returns-then-file-at-eq45
+returns-then-file-at-eq45 c = c.negative_at.ensures ∙ sym (signed_minus _ _ _ c.before.if-file-at-eq45.true)
 
-number-at-requires : tie.Need-number-at-requires
-number-at-requires c κs = search rules
+number_at-requires : tie.Need-number_at-requires
+number_at-requires c κs = search rules
 
-enum-known-v : tie.Need-enum-known-v
-enum-known-v c = search rules
+enum_known-v : tie.Need-enum_known-v
+enum_known-v c = search rules
 
-enum_told : tie.Need-enum-told
-enum_told c = search rules
+enum_told-1 : tie.Need-enum_told-1
+enum_told-1 c = search rules
 
-returns-3 : tie.Need-returns-3
-returns-3 c = sym (signed_other _ _ _ c.before.before.before.if2.false ∙ simp (sym c.before.before.number_at.ensures ∙ c.enum_told.given.1))
+returns-in_default : tie.Need-returns-in_default
+returns-in_default c = sym (signed_other _ _ _ c.before.before.before.if-file-at-eq45.false ∙ simp (sym c.before.before.number_at.ensures ∙ c.enum_told-1.given.1))
 
 widened-requires : tie.Need-widened-requires
 widened-requires c κs = search rules
 
-returns-4 : tie.Need-returns-4
-returns-4 c = let v = c.before.before in
-    sym (signed_other _ _ _ v.before.before.before.if2.false ∙ simp (to_z-of_z w64 c.widened.result (record { sfits = c.widened.type-inv }) ∙ c.widened.ensures, sym v.before.before.number_at.ensures ∙ v.v.given.1))
+returns : tie.Need-returns
+returns c = let v = c.before.before in
+    sym (signed_other _ _ _ v.before.before.before.if-file-at-eq45.false ∙ simp (to_z-of_z w64 c.widened.result (record { sfits = c.widened.type_inv }) ∙ c.widened.ensures, sym v.before.before.number_at.ensures ∙ v.v-1.given.1))
 
 pub signed_at_spec : {M : Type 1} → statement M
 signed_at_spec =
     tie.close
     (tie.spec
-    returns
-    shared-slice-read-if2
-    add-negative-at
-    negative-at-requires
-    returns-2
-    number-at-requires
-    enum-known-v
-    enum_told
-    returns-3
+    returns-then-file-at
+    bounds-file-at
+    overflow_add-at
+    negative_at-requires
+    returns-then-file-at-eq45
+    number_at-requires
+    enum_known-v
+    enum_told-1
+    returns-in_default
     widened-requires
-    returns-4)
+    returns)

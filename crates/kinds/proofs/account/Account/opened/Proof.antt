@@ -8,17 +8,17 @@ use Rattle.kinds.proofs.account.Account.opened.Tie as tie
 within-requires : tie.Need-within-requires
 within-requires c κs = search rules
 
-enum-known-balance : tie.Need-enum-known-balance
-enum-known-balance c = search rules
+enum_known-balance : tie.Need-enum_known-balance
+enum_known-balance c = search rules
 
-enum_told : tie.Need-enum-told
-enum_told c = search rules
+enum_told-1 : tie.Need-enum_told-1
+enum_told-1 c = search rules
 
-returns : tie.Need-returns
-returns c = told_in (λ n. At (account_of n)) Refused 0 opening_most c.before.before.before.within.ensures c.before.before.before.before.ranges.opening c.before.balance.given.1
+returns-in-In : tie.Need-returns-in-In
+returns-in-In c = told_in (λ n. At (account_of n)) Refused 0 opening_most c.before.before.before.within.ensures c.before.before.before.before.ranges.opening c.before.balance-1.given.1
 
-returns-2 : tie.Need-returns-2
-returns-2 c = told_out (λ n. At (account_of n)) Refused 0 opening_most c.before.before.within.ensures c.before.before.before.ranges.opening c.enum_told.given.1
+returns-in-Out : tie.Need-returns-in-Out
+returns-in-Out c = told_out (λ n. At (account_of n)) Refused 0 opening_most c.before.before.within.ensures c.before.before.before.ranges.opening c.enum_told-1.given.1
 
 pub opened_spec : {M : Type 1} → statement M
-opened_spec = tie.close (tie.spec within-requires enum-known-balance enum_told returns returns-2)
+opened_spec = tie.close (tie.spec within-requires enum_known-balance enum_told-1 returns-in-In returns-in-Out)

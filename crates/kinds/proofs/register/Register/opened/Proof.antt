@@ -9,18 +9,18 @@ use Rattle.kinds.proofs.register.Register.opened.Tie as tie
 within-requires : tie.Need-within-requires
 within-requires c κs = search rules
 
-enum-known-value : tie.Need-enum-known-value
-enum-known-value c = search rules
+enum_known-value : tie.Need-enum_known-value
+enum_known-value c = search rules
 
-enum_told : tie.Need-enum-told
-enum_told c = search rules
+enum_told-1 : tie.Need-enum_told-1
+enum_told-1 c = search rules
 
 -- by rewriting, which proves a contract that says less as well: must-fail/says_less is left to Sole
-returns : tie.Need-returns
-returns c = rw (sym (told_in (λ n. At (register_of n)) Refused 0 value_most c.before.before.before.within.ensures c.before.before.before.before.ranges.opening c.before.value.given.1))
+returns-in-In : tie.Need-returns-in-In
+returns-in-In c = rw (sym (told_in (λ n. At (register_of n)) Refused 0 value_most c.before.before.before.within.ensures c.before.before.before.before.ranges.opening c.before.value-1.given.1))
 
-returns-2 : tie.Need-returns-2
-returns-2 c = rw (sym (told_out (λ n. At (register_of n)) Refused 0 value_most c.before.before.within.ensures c.before.before.before.ranges.opening c.enum_told.given.1))
+returns-in-Out : tie.Need-returns-in-Out
+returns-in-Out c = rw (sym (told_out (λ n. At (register_of n)) Refused 0 value_most c.before.before.within.ensures c.before.before.before.ranges.opening c.enum_told-1.given.1))
 
 pub opened_spec : {M : Type 1} → statement M
-opened_spec = tie.close (tie.spec within-requires enum-known-value enum_told returns returns-2)
+opened_spec = tie.close (tie.spec within-requires enum_known-value enum_told-1 returns-in-In returns-in-Out)

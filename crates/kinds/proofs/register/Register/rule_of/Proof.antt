@@ -5,24 +5,24 @@ use borrow.Author.Rules.{rules}
 use Rattle.kinds.proofs.register.Register.rule_of.Statement.{statement}
 use Rattle.kinds.proofs.register.Register.rule_of.Tie as tie
 
-mul-result : tie.Need-overflow-mul-result
-mul-result c = search rules
+offset_bounds-row : tie.Need-offset_bounds-row
+offset_bounds-row c = search rules
 
-index-1-result : tie.Need-bounds-1-result
-index-1-result c = search rules
+bounds-row : tie.Need-bounds-row
+bounds-row c = search rules
 
-index-2-result : tie.Need-bounds-2-result
-index-2-result c = search rules
+bounds-column : tie.Need-bounds-column
+bounds-column c = search rules
 
-returns : tie.Need-returns
-returns c = inside table 2 (sized Register) c.before.before.before.args.row c.before.before.before.args.column c.before.before.if1.true c.before.if2.true
+returns-then-column-lt-ROWS : tie.Need-returns-then-column-lt-ROWS
+returns-then-column-lt-ROWS c = inside table 2 (sized Register) c.before.before.before.args.row c.before.before.before.args.column c.before.before.if-row-lt-ROWS.true c.before.if-column-lt-ROWS.true
 
-returns-2 : tie.Need-returns-2
-returns-2 c = past_row table 2 (sized Register) c.before.before.args.row c.before.before.args.column c.if2.false
+returns-else-column-lt-ROWS : tie.Need-returns-else-column-lt-ROWS
+returns-else-column-lt-ROWS c = past_row table 2 (sized Register) c.before.before.args.row c.before.before.args.column c.if-column-lt-ROWS.false
 
-returns-3 : tie.Need-returns-3
-returns-3 c = past_rows table 2 (sized Register) c.before.args.row c.before.args.column c.if1.false
+returns-else-row-lt-ROWS : tie.Need-returns-else-row-lt-ROWS
+returns-else-row-lt-ROWS c = past_rows table 2 (sized Register) c.before.args.row c.before.args.column c.if-row-lt-ROWS.false
 
 pub rule_of_spec : {M : Type 1} → statement M
 rule_of_spec =
-    tie.close (tie.spec mul-result index-1-result index-2-result returns returns-2 returns-3)
+    tie.close (tie.spec offset_bounds-row bounds-row bounds-column returns-then-column-lt-ROWS returns-else-column-lt-ROWS returns-else-row-lt-ROWS)

@@ -6,67 +6,67 @@ use Rattle.kinds.proofs.Keys.{unequal, equal}
 use Rattle.kinds.proofs.table.Rule.judge.Statement.{statement}
 use Rattle.kinds.proofs.table.Rule.judge.Tie as tie
 
-enum_told : tie.Need-enum-told
-enum_told c = search rules
+enum_told-1 : tie.Need-enum_told-1
+enum_told-1 c = search rules
 
-enum-told-2 : tie.Need-enum-told-2
-enum-told-2 c = search rules
+enum_told-in-Conflict : tie.Need-enum_told-in-Conflict
+enum_told-in-Conflict c = search rules
 
-enum-told-3 : tie.Need-enum-told-3
-enum-told-3 c = search rules
+enum_told-in-UnlessEqual : tie.Need-enum_told-in-UnlessEqual
+enum_told-in-UnlessEqual c = search rules
 
-enum-told-4 : tie.Need-enum-told-4
-enum-told-4 c = search rules
+enum_told-in-IfEqual : tie.Need-enum_told-in-IfEqual
+enum_told-in-IfEqual c = search rules
 
-enum-told-5 : tie.Need-enum-told-5
-enum-told-5 c = search rules
+enum_told-in-IfAtLeast : tie.Need-enum_told-in-IfAtLeast
+enum_told-in-IfAtLeast c = search rules
 
-enum-told-6 : tie.Need-enum-told-6
-enum-told-6 c = search rules
+enum_told-in-IfAtMost : tie.Need-enum_told-in-IfAtMost
+enum_told-in-IfAtMost c = search rules
 
-returns : tie.Need-returns
-returns c = search rules
+returns-in-Pass : tie.Need-returns-in-Pass
+returns-in-Pass c = search rules
 
-returns-2 : tie.Need-returns-2
-returns-2 c = search rules
+returns-in-Conflict : tie.Need-returns-in-Conflict
+returns-in-Conflict c = search rules
 
-returns-3 : tie.Need-returns-3
-returns-3 c =
+returns-in-UnlessEqual : tie.Need-returns-in-UnlessEqual
+returns-in-UnlessEqual c =
     let a = c.before.before.args in
     let f = c.before.before.ranges in
-    rw c.enum-told3.given.1 (unequal a.asking a.held f.asking f.held)
+    rw c.enum_told-in-UnlessEqual-1.given.1 (unequal a.asking a.held f.asking f.held)
 
-returns-4 : tie.Need-returns-4
-returns-4 c =
+returns-in-IfEqual : tie.Need-returns-in-IfEqual
+returns-in-IfEqual c =
     let a = c.before.before.args in
     let f = c.before.before.ranges in
-    rw c.enum-told4.given.1 (equal a.asking a.held f.asking f.held)
+    rw c.enum_told-in-IfEqual-1.given.1 (equal a.asking a.held f.asking f.held)
 
-returns-5 : tie.Need-returns-5
-returns-5 c =
+returns-in-IfAtLeast : tie.Need-returns-in-IfAtLeast
+returns-in-IfAtLeast c =
     let a = c.before.before.args in
     let f = c.before.before.ranges in
-    rw (c.enum-told5.given.1, to_z-of_z {w = w64} f.asking, to_z-of_z {w = w64} f.held) refl
+    rw (c.enum_told-in-IfAtLeast-1.given.1, to_z-of_z {w = w64} f.asking, to_z-of_z {w = w64} f.held) refl
 
-returns-6 : tie.Need-returns-6
-returns-6 c =
+returns-in-IfAtMost : tie.Need-returns-in-IfAtMost
+returns-in-IfAtMost c =
     let a = c.before.before.args in
     let f = c.before.before.ranges in
-    rw (c.enum-told6.given.1, to_z-of_z {w = w64} f.asking, to_z-of_z {w = w64} f.held) refl
+    rw (c.enum_told-in-IfAtMost-1.given.1, to_z-of_z {w = w64} f.asking, to_z-of_z {w = w64} f.held) refl
 
 pub judge_spec : {M : Type 1} → statement M
 judge_spec =
     tie.close
     (tie.spec
-    enum_told
-    enum-told-2
-    enum-told-3
-    enum-told-4
-    enum-told-5
-    enum-told-6
-    returns
-    returns-2
-    returns-3
-    returns-4
-    returns-5
-    returns-6)
+    enum_told-1
+    enum_told-in-Conflict
+    enum_told-in-UnlessEqual
+    enum_told-in-IfEqual
+    enum_told-in-IfAtLeast
+    enum_told-in-IfAtMost
+    returns-in-Pass
+    returns-in-Conflict
+    returns-in-UnlessEqual
+    returns-in-IfEqual
+    returns-in-IfAtLeast
+    returns-in-IfAtMost)
