@@ -39,7 +39,7 @@ enum_told-1 c = search rules
 returns-in_default : tie.Need-returns-in_default invariant-loop decreases-loop
 returns-in_default c =
     sym (c.before.before.before.before.loop-left.invariant.3
-    ∙ columns_wrong _ _ _ _ _ _ (sym c.before.before.object_at_lem.ensures ∙ c.enum_told-1.given.1))
+    ∙ columns_wrong _ _ _ _ _ _ (sym c.before.before.object_at.ensures ∙ c.enum_told-1.given.1))
     ∙ columns_start (objects c.before.before.before.before.before.before)
 
 bounds-kinds-i : tie.Need-bounds-kinds-i invariant-loop decreases-loop
@@ -71,7 +71,7 @@ loop-left-preserved c =
       rw (to_z-of_z w64 z f)
           (l.invariant.3
           ∙ columns_more _ _ _ _ _ _ _ _ _ c.before.before.before.before.loop-left-test.true
-          (sym c.before.before.before.object_at_lem.ensures ∙ c.before.letter-1.given.1)),
+          (sym c.before.before.before.object_at.ensures ∙ c.before.letter-1.given.1)),
     )
 
 returns : tie.Need-returns invariant-loop decreases-loop

@@ -45,7 +45,7 @@ returns c =
     let o = h.before in
     let s = o.before.before.before.before in
     rw (ne_eqb _ 0 o.before.before.if-place-x-eq0.false, eq-eqb _ _ o.if-object-x.false, ← h.at16.ensures, ne_eqb _ 1 a.if-above-at16-eq1.false)
-    (c.is_clash.ensures ∙ ap (clashes s.args.kind s.args.asking) c.before.record_at_lem.ensures)
+    (c.is_clash.ensures ∙ ap (clashes s.args.kind s.args.asking) c.before.record_at.ensures)
 
 pub is_blocking_spec : {M : Type 1} → statement M
 is_blocking_spec =

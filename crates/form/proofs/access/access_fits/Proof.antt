@@ -31,7 +31,7 @@ enum_told-1 c = search rules
 told : (c : tie.After-decode) {d : Decoded} → c.decode.result ≡ d → d ≡ decode_of (kind_of c.before.before.before.args.letter) c.before.before.before.args.operation c.before.before.before.args.argument
 told c e =
     let read = c.before.before.before in
-    sym e ∙ c.decode.ensures ∙ same c.before.before.kind_of_lem.ensures c.before.word8.ensures (to_z-of_z read.ranges.argument)
+    sym e ∙ c.decode.ensures ∙ same c.before.before.kind_of.ensures c.before.word8.ensures (to_z-of_z read.ranges.argument)
   where
     same : {kind k : Kind} {n m : ℕ} {y z : ℤ} → kind ≡ k → n ≡ m → y ≡ z → decode_of kind n y ≡ decode_of k m z
     same p q r = rw (p, q, r)
@@ -50,7 +50,7 @@ returns-then-outcome-eq0 c =
     let decoded = asked.before.before in
     let d = told decoded asked.asked-1.given.1 in
     let v = to_z-of_z decoded.before.before.before.ranges.value in
-    rw (← d, eq-eqb _ _ c.before.if-outcome-eq0.true) (c.is_zero_lem.ensures ∙ ap is_zero v)
+    rw (← d, eq-eqb _ _ c.before.if-outcome-eq0.true) (c.is_zero.ensures ∙ ap is_zero v)
 
 overflow_sub-outcome : tie.Need-overflow_sub-outcome
 overflow_sub-outcome c = search rules

@@ -15,8 +15,8 @@ returns-then-operation-ne0 c = rw (eq-eqb _ _ c.before.if-object-ne0.false, ne_e
 is_zero-requires : tie.Need-is_zero-requires
 is_zero-requires c κs = search rules
 
-argument-zero : (c : tie.After-is_zero) → c.is_zero_lem.result ≡ is_zero c.before.before.before.args.argument
-argument-zero c = c.is_zero_lem.ensures ∙ ap is_zero (to_z-of_z c.before.before.before.ranges.argument)
+argument-zero : (c : tie.After-is_zero) → c.is_zero.result ≡ is_zero c.before.before.before.args.argument
+argument-zero c = c.is_zero.ensures ∙ ap is_zero (to_z-of_z c.before.before.before.ranges.argument)
 
 returns-then-not-is_zero : tie.Need-returns-then-not-is_zero
 returns-then-not-is_zero c =

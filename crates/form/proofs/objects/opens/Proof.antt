@@ -18,7 +18,7 @@ enum_told-in-Refused : tie.Need-enum_told-in-Refused
 enum_told-in-Refused c = search rules
 
 opening : (c : tie.After-opened) → c.opened.result ≡ opened_of (kind_of c.before.before.args.letter) c.before.before.args.opening
-opening c = c.opened.ensures ∙ ap₂ opened_of c.before.kind_of_lem.ensures (to_z-of_z c.before.before.ranges.opening)
+opening c = c.opened.ensures ∙ ap₂ opened_of c.before.kind_of.ensures (to_z-of_z c.before.before.ranges.opening)
 
 returns-in-At : tie.Need-returns-in-At
 returns-in-At c = ap opens (sym c.enum_told-1.given.1 ∙ opening c.before.before)

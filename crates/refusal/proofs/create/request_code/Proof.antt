@@ -37,7 +37,7 @@ found : (c : tie.After-decode)
     c.decode.result ≡ decode_of (kind_of (at g.kind.now g.request.object)) g.request.operation g.request.argument
 found c = let k = c.before.before in
     let g = k.before.before.before.before.args in
-    c.decode.ensures ∙ ap₂ (λ kind argument. decode_of kind g.request.operation argument) k.kind_of_lem.ensures (to_z-of_z {w = w64} (record { sfits = c.before.struct_told-1.given.1.1.0.1 }))
+    c.decode.ensures ∙ ap₂ (λ kind argument. decode_of kind g.request.operation argument) k.kind_of.ensures (to_z-of_z {w = w64} (record { sfits = c.before.struct_told-1.given.1.1.0.1 }))
 
 returns-in-Fit : tie.Need-returns-in-Fit
 returns-in-Fit c = let d = c.before.before in

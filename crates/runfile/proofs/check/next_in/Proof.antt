@@ -16,7 +16,7 @@ enum_told-in_default : tie.Need-enum_told-in_default
 enum_told-in_default c = search rules
 
 returns-in_default : tie.Need-returns-in_default
-returns-in_default c = simp (c.before.before.before.enum_told-1.given.1, sym c.before.before.object_at_lem.ensures ∙ c.enum_told-in_default-1.given.1)
+returns-in_default c = simp (c.before.before.before.enum_told-1.given.1, sym c.before.before.object_at.ensures ∙ c.enum_told-in_default-1.given.1)
 
 enum_told-in-Calls : tie.Need-enum_told-in-Calls
 enum_told-in-Calls c = search rules
@@ -35,7 +35,7 @@ returns-in_default-call_at c = simp (c.before.before.before.enum_told-in-Calls-1
 
 returns-in-Object : tie.Need-returns-in-Object
 returns-in-Object c = let n = c.before in
-    simp (n.before.before.before.enum_told-1.given.1, sym n.before.before.object_at_lem.ensures ∙ n.next-1.given.1)
+    simp (n.before.before.before.enum_told-1.given.1, sym n.before.before.object_at.ensures ∙ n.next-1.given.1)
 
 returns-in-Call : tie.Need-returns-in-Call
 returns-in-Call c = let n = c.before in

@@ -58,7 +58,7 @@ returns-in_default-signed_at : tie.Need-returns-in_default-signed_at
 returns-in_default-signed_at c = let k = c.before.before.before.before in
     let j = k.before.before.before.before in
     let i = j.before.before.before.before in
-    simp (sym i.before.before.number_at.ensures ∙ i.parent-1.given.1, sym j.before.before.number_at-2.ensures ∙ j.object-1.given.1, sym k.before.before.number_at-3.ensures ∙ k.operation-1.given.1, sym c.before.before.signed_at_lem.ensures ∙ c.enum_told-in_default-signed_at-1.given.1)
+    simp (sym i.before.before.number_at.ensures ∙ i.parent-1.given.1, sym j.before.before.number_at-2.ensures ∙ j.object-1.given.1, sym k.before.before.number_at-3.ensures ∙ k.operation-1.given.1, sym c.before.before.signed_at.ensures ∙ c.enum_told-in_default-signed_at-1.given.1)
 
 returns : tie.Need-returns
 returns c = let l = c.before in
@@ -67,7 +67,7 @@ returns c = let l = c.before in
     let i = j.before.before.before.before in
     let z = l.argument-1.given.0.0 in
     let fits : SFits w64 z = search rules in
-    simp (to_z-of_z w64 z fits, sym i.before.before.number_at.ensures ∙ i.parent-1.given.1, sym j.before.before.number_at-2.ensures ∙ j.object-1.given.1, sym k.before.before.number_at-3.ensures ∙ k.operation-1.given.1, sym l.before.before.signed_at_lem.ensures ∙ l.argument-1.given.1)
+    simp (to_z-of_z w64 z fits, sym i.before.before.number_at.ensures ∙ i.parent-1.given.1, sym j.before.before.number_at-2.ensures ∙ j.object-1.given.1, sym k.before.before.number_at-3.ensures ∙ k.operation-1.given.1, sym l.before.before.signed_at.ensures ∙ l.argument-1.given.1)
 
 pub access_at_spec : {M : Type 1} → statement M
 access_at_spec =

@@ -12,7 +12,7 @@ use Rattle.runfile.proofs.line.object_at.Statement.{statement}
 use Rattle.runfile.proofs.line.object_at.Tie as tie
 
 kind : (e : tie.Else-not-is_kind) → is_kind e.before.before.letter_at-letter.result ≡ true
-kind e = sym e.before.is_kind_lem.ensures ∙ not-false _ e.if-not-is_kind.false-raw
+kind e = sym e.before.is_kind.ensures ∙ not-false _ e.if-not-is_kind.false-raw
 
 letter_at-letter-requires : tie.Need-letter_at-letter-requires
 letter_at-letter-requires c κs = search rules
@@ -21,7 +21,7 @@ is_kind-requires : tie.Need-is_kind-requires
 is_kind-requires c κs = search rules
 
 returns-then-not-is_kind : tie.Need-returns-then-not-is_kind
-returns-then-not-is_kind c = simp (← c.before.before.letter_at-letter.ensures, sym c.before.is_kind_lem.ensures ∙ not-true _ c.if-not-is_kind.true-raw)
+returns-then-not-is_kind c = simp (← c.before.before.letter_at-letter.ensures, sym c.before.is_kind.ensures ∙ not-true _ c.if-not-is_kind.true-raw)
 
 overflow_add-from : tie.Need-overflow_add-from
 overflow_add-from c = let a = c.before.before.before.before.args in
@@ -38,14 +38,14 @@ enum_told-1 c = search rules
 
 returns-in_default : tie.Need-returns-in_default
 returns-in_default c = let e = c.before.before.before in
-    simp (← e.before.before.letter_at-letter.ensures, kind e, sym c.before.before.signed_at_lem.ensures ∙ c.enum_told-1.given.1)
+    simp (← e.before.before.letter_at-letter.ensures, kind e, sym c.before.before.signed_at.ensures ∙ c.enum_told-1.given.1)
 
 returns : tie.Need-returns
 returns c = let o = c.before in
     let e = o.before.before.before in
     let z = o.opening-1.given.0.0 in
     let fits : SFits w64 z = search rules in
-    simp (to_z-of_z w64 z fits, ← e.before.before.letter_at-letter.ensures, kind e, sym o.before.before.signed_at_lem.ensures ∙ o.opening-1.given.1)
+    simp (to_z-of_z w64 z fits, ← e.before.before.letter_at-letter.ensures, kind e, sym o.before.before.signed_at.ensures ∙ o.opening-1.given.1)
 
 pub object_at_spec : {M : Type 1} → statement M
 object_at_spec =

@@ -39,7 +39,7 @@ asked-requires c κs = (access c.before.before.before.before.before.before.befor
 -- what the row asks
 asks : (a : tie.After-asked) → let g = a.before.before.before.before.before.before.before.before in a.asked.result ≡ asked_at (S g) (at (S g).object (T g)) (T g)
 asks a = let g = a.before.before.before.before.before.before.before.before in
-    asked_is (S g) (T g) _ a.before.before.before.before.before.before.wide8-object.ensures _ a.before.before.before.before.kind_of_lem.ensures _ a.asked.ensures
+    asked_is (S g) (T g) _ a.before.before.before.before.before.before.wide8-object.ensures _ a.before.before.before.before.kind_of-kind.ensures _ a.asked.ensures
 
 enum_known-operation : tie.Need-enum_known-operation
 enum_known-operation c = search rules
@@ -68,12 +68,12 @@ replayed-state-requires c κs = let g = c.before.before.before.before.before.bef
       listed_once (S g) (T g) a.form,
       omega (arith, a.known),
       lower_rows (S g) a.form,
-      opens_is (S g) (T g) _ c.before.before.before.before.before.before.before.before.before.before.before.before.before.before.before.before.before.wide8-object.ensures _ c.before.before.before.before.before.before.before.before.before.before.before.before.before.before.before.kind_of_lem.ensures c.before.before.before.before.before.before.before.opening-1.given a,
+      opens_is (S g) (T g) _ c.before.before.before.before.before.before.before.before.before.before.before.before.before.before.before.before.before.wide8-object.ensures _ c.before.before.before.before.before.before.before.before.before.before.before.before.before.before.before.kind_of-kind.ensures c.before.before.before.before.before.before.before.opening-1.given a,
     )
 
 state : (c : tie.After-replayed-state) → let g = c.before.before.before.before.before.before.before.before.before.before.before.before.before.before.before.before.before.before.before.before in c.replayed-state.result ≡ state_for (S g) (at (S g).object (T g)) (T g)
 state c = let g = c.before.before.before.before.before.before.before.before.before.before.before.before.before.before.before.before.before.before.before.before in
-    state_is (S g) (T g) _ c.before.before.before.before.before.before.before.before.before.before.before.before.before.before.before.before.before.before.wide8-object.ensures _ c.before.before.before.before.before.before.before.before.before.before.before.before.before.before.before.before.kind_of_lem.ensures c.before.before.before.before.before.before.before.before.opening-1.given _ c.replayed-state.ensures
+    state_is (S g) (T g) _ c.before.before.before.before.before.before.before.before.before.before.before.before.before.before.before.before.before.before.wide8-object.ensures _ c.before.before.before.before.before.before.before.before.before.before.before.before.before.before.before.before.kind_of-kind.ensures c.before.before.before.before.before.before.before.before.opening-1.given _ c.replayed-state.ensures
 
 fits : (c : tie.After-replayed-state) → let g = c.before.before.before.before.before.before.before.before.before.before.before.before.before.before.before.before.before.before.before.before in asked_at (S g) (at (S g).object (T g)) (T g) ≡ Fit c.before.before.before.before.before.before.before.before.before.before.operation-1.given.0.0
 fits c = sym (asks c.before.before.before.before.before.before.before.before.before.before.before.before) ∙ c.before.before.before.before.before.before.before.before.before.before.operation-1.given.1

@@ -47,7 +47,7 @@ returns c = let g = c.before.before.before.before.before.before.before.before.be
     let s = S g in
     c.first_wait.ensures
     ∙ ap (λ k. first_below (rows_of s) (blocks s.parent s.holder s.place s.object (record_in k s.operation s.argument s.outcome s.value) k (at s.object (T g)) (T g) g.args.asking))
-    (kind_is s (T g) _ c.before.before.before.before.before.before.before.before.before.before.before.before.wide8-object.ensures _ c.before.before.before.before.before.before.before.before.before.before.kind_of_lem.ensures)
+    (kind_is s (T g) _ c.before.before.before.before.before.before.before.before.before.before.before.before.wide8-object.ensures _ c.before.before.before.before.before.before.before.before.before.before.kind_of-kind.ensures)
 
 pub wait_for_spec : {M : Type 1} → statement M
 wait_for_spec =
