@@ -1,6 +1,7 @@
 // The store's calls, each with its answer printed. Nothing is asked of the store that comes in.
 use crate::show::{print, shown};
 use refusal::{Child, Request};
+use std::io;
 use store::Store;
 
 pub(crate) const ACCOUNT: u32 = 0;
@@ -40,32 +41,32 @@ pub(crate) const LOWEST: i64 = -9_223_372_036_854_775_808;
 pub(crate) const HIGHEST: i64 = 9_223_372_036_854_775_807;
 
 // The store that each starts with: `A 10` is object 0, `R 7` object 1, `K -7` object 2, `S 5` object 3.
-pub(crate) fn begin(heading: &[u8]) -> Store {
-    print(heading);
-    shown(Store::open(b"ARKS", &[10, 7, -7, 5]))
+pub(crate) fn begin(rt: &impl Print, heading: &[u8]) -> io::Result<Store> {
+    print(rt, heading)?;
+    shown(rt, Store::open(b"ARKS", &[10, 7, -7, 5]))
 }
 
-pub(crate) fn plain(s: Store, parent: u32) -> Store {
-    shown(s.create(parent, Child::Plain))
+pub(crate) fn plain(rt: &impl Print, s: Store, parent: u32) -> io::Result<Store> {
+    shown(rt, s.create(parent, Child::Plain))
 }
 
-pub(crate) fn access(s: Store, parent: u32, object: u32, operation: u32, argument: i64) -> Store {
+pub(crate) fn access(rt: &impl Print, s: Store, parent: u32, object: u32, operation: u32, argument: i64) -> io::Result<Store> {
     let request = Request {
         object: object,
         operation: operation,
         argument: argument,
     };
-    shown(s.create(parent, Child::Access(request)))
+    shown(rt, s.create(parent, Child::Access(request)))
 }
 
-pub(crate) fn respond(s: Store, t: u32) -> Store {
-    shown(s.respond(t))
+pub(crate) fn respond(rt: &impl Print, s: Store, t: u32) -> io::Result<Store> {
+    shown(rt, s.respond(t))
 }
 
-pub(crate) fn commit(s: Store, t: u32) -> Store {
-    shown(s.commit(t))
+pub(crate) fn commit(rt: &impl Print, s: Store, t: u32) -> io::Result<Store> {
+    shown(rt, s.commit(t))
 }
 
-pub(crate) fn abort(s: Store, t: u32) -> Store {
-    shown(s.abort(t))
+pub(crate) fn abort(rt: &impl Print, s: Store, t: u32) -> io::Result<Store> {
+    shown(rt, s.abort(t))
 }

@@ -1,32 +1,34 @@
 // Takes stores as bytes, in form or not. Of each record of standard input, a store and a call on it, it writes the answer and the store that is
 // handed back.
+#![tactic(auto)]
+
 mod layout;
 mod reading;
 mod writing;
 
 use crate::layout::{RECORD, REPLY};
-use libc::{STDIN_FILENO, STDOUT_FILENO};
+use input::read_full;
+use std::io::{self, Write};
 
-fn send(reply: &[u8; REPLY]) -> bool {
-    io::write_all(STDOUT_FILENO, reply)
-}
-
-// Whether a whole record came and its reply went.
-fn answer_one() -> bool {
+// Whether a whole record came, to which the reply has gone.
+fn answer_one(rt: &HostRuntime) -> io::Result<bool> {
     let mut bytes = [0u8; RECORD];
-    let n = io::read_full(STDIN_FILENO, &mut bytes);
+    let n = read_full(&mut rt.stdin(), &mut bytes)?;
     if n < RECORD {
-        return false;
+        return Ok(false);
     }
     let mut out = [0u8; REPLY];
     writing::put_reply(&mut out, reading::reply_to(&bytes));
-    send(&out)
+    io::writer(rt).write_all(&out)?;
+    Ok(true)
 }
 
-fn main() {
+fn main(rt: HostRuntime) -> io::Result<()> {
     // A loop has to end, and nothing says that the input does: a number of turns that no run uses up.
-    let mut turns = u64::MAX;
-    while 0 < turns && answer_one() {
-        turns -= 1;
+    for _ in 0..u64::MAX {
+        if !answer_one(&rt)? {
+            break;
+        }
     }
+    Ok(())
 }

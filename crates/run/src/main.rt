@@ -1,11 +1,14 @@
 // Reads a run file from standard input and writes what the runner puts.
-use libc::{STDIN_FILENO, STDOUT_FILENO};
-use runner::{INPUT, OUTPUT};
+#![tactic(auto)]
 
-fn main() {
+use input::read_full;
+use runner::{INPUT, OUTPUT};
+use std::io::{self, Write};
+
+fn main(rt: HostRuntime) -> io::Result<()> {
     let mut input = [0u8; INPUT];
-    let n = io::read_full(STDIN_FILENO, &mut input);
+    let n = read_full(&mut rt.stdin(), &mut input)?;
     let mut output = [0u8; OUTPUT];
     let end = runner::run_file(&input[..n], &mut output);
-    io::write_all(STDOUT_FILENO, &output[0..end]);
+    io::writer(&rt).write_all(&output[..end])
 }

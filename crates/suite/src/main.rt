@@ -1,31 +1,28 @@
 // Runs each run file that an argument names: prints the name on a line, and then what the runner puts.
-use libc::STDOUT_FILENO;
-use runner::{INPUT, OUTPUT};
+#![tactic(auto)]
 
-fn run_named(path: &[u8]) {
-    let fd = os::open_read(path);
-    if fd < 0 {
-        os::fail(path);
-        return;
-    }
+use input::read_full;
+use runner::{INPUT, OUTPUT};
+use std::fs::{Files, open};
+use std::io::{self, Write};
+use std::env;
+
+fn run_named(rt: &(impl Files + Print), path: &str) -> io::Result<()> {
+    let mut file = match open(rt, path) {
+        Ok(file) => file,
+        Err(error) => return eprintln!(rt; "{path}: {error}"),
+    };
     let mut input = [0u8; INPUT];
-    let n = io::read_full(fd, &mut input);
-    libc::close(fd);
+    let n = read_full(&mut file, &mut input)?;
     let mut output = [0u8; OUTPUT];
     let end = runner::run_file(&input[..n], &mut output);
-    io::write_all(STDOUT_FILENO, path);
-    io::write_all(STDOUT_FILENO, b"\n");
-    io::write_all(STDOUT_FILENO, &output[0..end]);
+    println!(rt; "{path}")?;
+    io::writer(rt).write_all(&output[..end])
 }
 
-fn run_argument(i: usize) {
-    let mut path = io::buffer();
-    let length = os::arg(i, &mut path);
-    run_named(&path[..length]);
-}
-
-fn main() {
-    for i in 1..os::arg_count() {
-        run_argument(i);
+fn main(rt: HostRuntime) -> io::Result<()> {
+    for path in env::args(&rt)?.skip(1) {
+        run_named(&rt, path.as_str())?;
     }
+    Ok(())
 }
