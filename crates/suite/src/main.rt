@@ -7,7 +7,7 @@ use std::fs::{Files, open};
 use std::io::{self, Write};
 use std::env;
 
-fn run_named(rt: &(impl Files + Print), path: &str) -> io::Result<()> {
+fn run_named(rt: &(impl Files + Print + Eprint), path: &str) -> io::Result<()> {
     let mut file = match open(rt, path) {
         Ok(file) => file,
         Err(error) => return eprintln!(rt; "{path}: {error}"),
