@@ -9,6 +9,7 @@ use kinds::{
     Register, Rule, Shape, State, Stepped,
 };
 
+#[tactic(auto, unfolding(kinds::specs::Kinds::kind_of))]
 pub fn kind_of(letter: u8) -> Kind
     ensures { result ≡ kind_of letter }
 {
@@ -132,6 +133,7 @@ fn class_of(kind: Kind, answered: Answered) -> Class
     }
 }
 
+#[tactic(auto, unfolding(kinds::specs::Table::entry))]
 fn rule_of(kind: Kind, row: usize, column: usize) -> Rule
     ensures { result ≡ entry (table_of kind) row column }
 {

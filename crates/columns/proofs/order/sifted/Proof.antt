@@ -40,21 +40,21 @@ bounds-order-k c = search rules
 abbrev test : tie.At-loop-i invariant-loop decreases-loop → ℕ → Bool
 test a = has a.before.args.mask.now a.before.args.v
 
-room : (c : tie.Then-mask-x invariant-loop decreases-loop) → c.before.before.before.before.loop-i.n < places_most
+room : (c : tie.Then-mask-x invariant-loop decreases-loop) → c.loop-i.n < places_most
 unfolding has
 room c =
-    let a = c.before.before.before.before in
-    let e = c.before.before.entry-x in
-    omega (arith, a.loop-i.invariant.1, a.before.requires.2, sift_room (test a) a.before.args.order.now a.loop-i.i a.before.args.listed e.result c.before.before.before.loop-i-test.true e.ensures (eq-eqb _ _ c.if-mask-x.true))
+    let a = c.before.before.before.before.before in
+    let e = c.entry-x in
+    omega (arith, a.loop-i.invariant.1, a.before.requires.2, sift_room (test a) a.before.args.order.now a.loop-i.i a.before.args.listed e.result c.loop-i-test.true e.ensures (eq-eqb _ _ c.if-mask-x.true))
 
 offset_bounds-out-n : tie.Need-offset_bounds-out-n invariant-loop decreases-loop
-offset_bounds-out-n c = omega (arith, room c.before)
+offset_bounds-out-n c = omega (arith, room c.before.before)
 
 bounds-out-n : tie.Need-bounds-out-n invariant-loop decreases-loop
-bounds-out-n c = room c.before
+bounds-out-n c = room c.before.before.before
 
 overflow_add-n : tie.Need-overflow_add-n invariant-loop decreases-loop
-overflow_add-n c = omega (arith, room c.before)
+overflow_add-n c = omega (arith, room c.before.before.before)
 
 loop-i-smaller-then-mask-x : tie.Need-loop-i-smaller-then-mask-x invariant-loop decreases-loop
 loop-i-smaller-then-mask-x c = search rules
@@ -62,8 +62,8 @@ loop-i-smaller-then-mask-x c = search rules
 loop-i-preserved-then-mask-x : tie.Need-loop-i-preserved-then-mask-x invariant-loop decreases-loop
 unfolding has
 loop-i-preserved-then-mask-x c =
-    let a = c.before.before.before.before.before in
-    let s = sift_hit (test a) _ _ _ _ _ _ _ a.loop-i.invariant.1 a.loop-i.invariant.2 c.before.before.before.entry-x.ensures (eq-eqb _ _ c.before.if-mask-x.true) in
+    let a = c.before.before.before.before.before.before.before.before in
+    let s = sift_hit (test a) _ _ _ _ _ _ _ a.loop-i.invariant.1 a.loop-i.invariant.2 c.entry-x.ensures (eq-eqb _ _ c.if-mask-x.true) in
     (omega arith, s.0, s.1)
 
 loop-i-smaller : tie.Need-loop-i-smaller invariant-loop decreases-loop
@@ -72,8 +72,8 @@ loop-i-smaller c = search rules
 loop-i-preserved : tie.Need-loop-i-preserved invariant-loop decreases-loop
 unfolding has
 loop-i-preserved c =
-    let a = c.before.before.before.before in
-    let s = sift_miss (test a) _ _ _ _ _ _ _ a.loop-i.invariant.1 a.loop-i.invariant.2 c.before.before.entry-x.ensures (ne_eqb _ _ c.if-mask-x.false) in
+    let a = c.before.before.before.before.before in
+    let s = sift_miss (test a) _ _ _ _ _ _ _ a.loop-i.invariant.1 a.loop-i.invariant.2 c.entry-x.ensures (ne_eqb _ _ c.if-mask-x.false) in
     (omega arith, s.0, s.1)
 
 returns : tie.Need-returns invariant-loop decreases-loop
