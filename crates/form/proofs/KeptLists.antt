@@ -32,13 +32,13 @@ module _ (count : ℕ) (parent outcome l holder : List ℕ) (few : count ≤ cou
   place_at : (i : ℕ) → i < length l → at (place_of l) (get_or l i 0) ≡ i + 1
   place_at = placed l single (λ k b. omega (arith, (known k b).1))
 
-  place-of : (x : ℕ) → (f : Found x l) → at (place_of l) x ≡ f.index + 1
-  place-of x f = ap (at (place_of l)) (sym f.is) ∙ place_at f.index f.small
+  place_of_lem : (x : ℕ) → (f : Found x l) → at (place_of l) x ≡ f.index + 1
+  place_of_lem x f = ap (at (place_of l)) (sym f.is) ∙ place_at f.index f.small
 
   row : (x : ℕ) (f : Found x l) → Listed (length l) x (at outcome x) (at (place_of l) x) (at (order_of l) (at (place_of l) x - 1)) (at_or_above parent x (at holder x))
   row x f =
       let q : f.index + 1 - 1 ≡ f.index = omega arith in
-      rw (place-of x f, q) (record {
+      rw (place_of_lem x f, q) (record {
         answered = found_each (λ x. at outcome x ≡ 0 → ⊥) l answered x f;
         within = omega (arith, f.small);
         stands = order_stands l short f.index f.small ∙ f.is;
@@ -50,7 +50,7 @@ module _ (count : ℕ) (parent outcome l holder : List ℕ) (few : count ≤ cou
     few = short;
     entries = λ i b. rw (order_stands l short i b) (record { some = (known i b).0; known = (known i b).1; placed = place_at i b });
     unused = λ i b h. order_past l i b;
-    unlisted = λ k h z. ⊎_elim (λ f. absurd (omega (arith, place-of k f))) (λ n. free k h n) (find k l);
+    unlisted = λ k h z. ⊎_elim (λ f. absurd (omega (arith, place_of_lem k f))) (λ n. free k h n) (find k l);
     rows = λ k h n. ⊎_elim (λ f. row k f) (λ m. absurd (n (unplaced l k m))) (find k l);
   }
 

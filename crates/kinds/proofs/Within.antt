@@ -40,8 +40,8 @@ module _ {A : Type 0} (f : ℤ → A) (other : A) (x low high : ℤ) where
   pub out_high : lt_z x low ≡ false → lt_z high x ≡ true → other ≡ in_signed x low high f other
   out_high e g = rw (not_below_le x low e, below_le high x g)
 
-  pub in-range : lt_z x low ≡ false → lt_z high x ≡ false → f x ≡ in_signed x low high f other
-  in-range e g = rw (not_below_le x low e, not_below_le high x g)
+  pub in_range_lem : lt_z x low ≡ false → lt_z high x ≡ false → f x ≡ in_signed x low high f other
+  in_range_lem e g = rw (not_below_le x low e, not_below_le high x g)
 
 -- a number between two that a width holds is held by it
 pub in_bits : (low high : ℕ) (x : ℤ) → Fits w32 high → lt_z x (pos low) ≡ false → lt_z (pos high) x ≡ false → T (non_neg x) × Fits w32 (nat_abs x)

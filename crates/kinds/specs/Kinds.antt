@@ -60,29 +60,29 @@ decode_of Bin operation argument = B.decode_of operation argument
 decode_of Unknown operation argument = Unfit
 
 -- what f makes of an operation of the kind; of one of another kind, the other
-abbrev pub onAccount {ℓ} : {B : Type ℓ} → Operation → B → (AccountOperation → B) → B
-onAccount (O.Account o) other f = f o
-onAccount (O.Register o) other f = other
-onAccount (O.Counter o) other f = other
-onAccount (O.Bin o) other f = other
+abbrev pub on_account {ℓ} : {B : Type ℓ} → Operation → B → (AccountOperation → B) → B
+on_account (O.Account o) other f = f o
+on_account (O.Register o) other f = other
+on_account (O.Counter o) other f = other
+on_account (O.Bin o) other f = other
 
-abbrev pub onRegister {ℓ} : {B : Type ℓ} → Operation → B → (RegisterOperation → B) → B
-onRegister (O.Account o) other f = other
-onRegister (O.Register o) other f = f o
-onRegister (O.Counter o) other f = other
-onRegister (O.Bin o) other f = other
+abbrev pub on_register {ℓ} : {B : Type ℓ} → Operation → B → (RegisterOperation → B) → B
+on_register (O.Account o) other f = other
+on_register (O.Register o) other f = f o
+on_register (O.Counter o) other f = other
+on_register (O.Bin o) other f = other
 
-abbrev pub onCounter {ℓ} : {B : Type ℓ} → Operation → B → (CounterOperation → B) → B
-onCounter (O.Account o) other f = other
-onCounter (O.Register o) other f = other
-onCounter (O.Counter o) other f = f o
-onCounter (O.Bin o) other f = other
+abbrev pub on_counter {ℓ} : {B : Type ℓ} → Operation → B → (CounterOperation → B) → B
+on_counter (O.Account o) other f = other
+on_counter (O.Register o) other f = other
+on_counter (O.Counter o) other f = f o
+on_counter (O.Bin o) other f = other
 
-abbrev pub onBin {ℓ} : {B : Type ℓ} → Operation → B → (BinOperation → B) → B
-onBin (O.Account o) other f = other
-onBin (O.Register o) other f = other
-onBin (O.Counter o) other f = other
-onBin (O.Bin o) other f = f o
+abbrev pub on_bin {ℓ} : {B : Type ℓ} → Operation → B → (BinOperation → B) → B
+on_bin (O.Account o) other f = other
+on_bin (O.Register o) other f = other
+on_bin (O.Counter o) other f = other
+on_bin (O.Bin o) other f = f o
 
 -- FAIL, and the state as it was
 abbrev pub idle : State → Stepped
@@ -90,17 +90,17 @@ idle s = record { state = s; outcome = Fail }
 
 -- what the object does; an operation of another kind, which `decode_of` never gives it, fails and changes nothing
 abbrev pub step_of : State → Operation → Stepped
-step_of (S.Account account) o = onAccount o (idle (S.Account account)) (A.step_of account)
-step_of (S.Register register) o = onRegister o (idle (S.Register register)) (R.step_of register)
-step_of (S.Counter counter) o = onCounter o (idle (S.Counter counter)) (K.step_of counter)
-step_of (S.Bin bin) o = onBin o (idle (S.Bin bin)) (B.step_of bin)
+step_of (S.Account account) o = on_account o (idle (S.Account account)) (A.step_of account)
+step_of (S.Register register) o = on_register o (idle (S.Register register)) (R.step_of register)
+step_of (S.Counter counter) o = on_counter o (idle (S.Counter counter)) (K.step_of counter)
+step_of (S.Bin bin) o = on_bin o (idle (S.Bin bin)) (B.step_of bin)
 
 -- no sum wraps, and a part has a digit
 abbrev pub Room : State → Operation → Type 0
-Room (S.Account account) o = onAccount o (Unit {0}) (A.Room account)
+Room (S.Account account) o = on_account o (Unit {0}) (A.Room account)
 Room (S.Register register) o = Unit {0}
-Room (S.Counter counter) o = onCounter o (Unit {0}) (K.Room counter)
-Room (S.Bin bin) o = onBin o (Unit {0}) B.Room
+Room (S.Counter counter) o = on_counter o (Unit {0}) (K.Room counter)
+Room (S.Bin bin) o = on_bin o (Unit {0}) B.Room
 
 -- a balance is at most 2,024,000,000, a register's value at most 1,000,000,000, a count at most 2,024,000,000 from zero; a bin has no parts but 0 to 31
 abbrev pub Bounded : State → Type 0
@@ -122,10 +122,10 @@ recall_of o a b = recalled (shape_of o) a b
 
 -- the class of an answer in the table of the kind
 abbrev pub class_of : Kind → Operation → Outcome → Class
-class_of Account o r = onAccount o None (λ p. A.class_of p r)
-class_of Register o r = onRegister o None (λ p. R.class_of p r)
-class_of Counter o r = onCounter o None (λ p. K.class_of p r)
-class_of Bin o r = onBin o None (λ p. B.class_of p r)
+class_of Account o r = on_account o None (λ p. A.class_of p r)
+class_of Register o r = on_register o None (λ p. R.class_of p r)
+class_of Counter o r = on_counter o None (λ p. K.class_of p r)
+class_of Bin o r = on_bin o None (λ p. B.class_of p r)
 class_of Unknown o r = None
 
 abbrev pub table_of : Kind → List (List Rule)

@@ -13,7 +13,7 @@ use Rattle.kinds.specs.declared.bin.BinOperation.TheVariants.{Put, Take, Look}
 use Rattle.kinds.specs.declared.outcome.Outcome.{Outcome}
 use Rattle.kinds.specs.declared.outcome.Outcome.TheVariants.{Ok, Fail, Value}
 use Rattle.kinds.specs.declared.Answered.{Answered}
-use Rattle.kinds.specs.Kinds.{onAccount, onRegister, onCounter, onBin}
+use Rattle.kinds.specs.Kinds.{on_account, on_register, on_counter, on_bin}
 use Rattle.kinds.specs.Outcome.{ok, numbers_of}
 use Rattle.kinds.specs.Account as A
 use Rattle.kinds.specs.Register as R
@@ -60,8 +60,8 @@ parts_for o r o' r' = cond (was_in o r) (2 ^ B.part_of o) 0
 
 -- where an operation is of another kind, 0
 abbrev pub witness_of : Kind → Answered → Answered → State
-witness_of Account p q = A.account_of (onAccount p.operation 0 (λ o. onAccount q.operation 0 (λ o'. balance_for o p.outcome o' q.outcome)))
-witness_of Register p q = R.register_of (onRegister p.operation 0 (λ o. onRegister q.operation 0 (λ o'. value_for o p.outcome o' q.outcome)))
-witness_of Counter p q = K.counter_of (onCounter p.operation (pos 0) (λ o. onCounter q.operation (pos 0) (λ o'. count_for o p.outcome o' q.outcome)))
-witness_of Bin p q = B.bin_of (onBin p.operation 0 (λ o. onBin q.operation 0 (λ o'. parts_for o p.outcome o' q.outcome)))
+witness_of Account p q = A.account_of (on_account p.operation 0 (λ o. on_account q.operation 0 (λ o'. balance_for o p.outcome o' q.outcome)))
+witness_of Register p q = R.register_of (on_register p.operation 0 (λ o. on_register q.operation 0 (λ o'. value_for o p.outcome o' q.outcome)))
+witness_of Counter p q = K.counter_of (on_counter p.operation (pos 0) (λ o. on_counter q.operation (pos 0) (λ o'. count_for o p.outcome o' q.outcome)))
+witness_of Bin p q = B.bin_of (on_bin p.operation 0 (λ o. on_bin q.operation 0 (λ o'. parts_for o p.outcome o' q.outcome)))
 witness_of Unknown p q = A.account_of 0

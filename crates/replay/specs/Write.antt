@@ -5,7 +5,7 @@ use Rattle.kinds.specs.declared.Decoded.{Decoded}
 use Rattle.kinds.specs.declared.Decoded.TheVariants.{Fit, Unfit}
 use Rattle.kinds.specs.declared.register.RegisterOperation.{RegisterOperation}
 use Rattle.kinds.specs.declared.register.RegisterOperation.TheVariants.{Read, Write}
-use Rattle.kinds.specs.Kinds.{onRegister}
+use Rattle.kinds.specs.Kinds.{on_register}
 use Rattle.columns.specs.Column.{at}
 
 abbrev pub puts : RegisterOperation → Bool
@@ -14,7 +14,7 @@ puts (Write n) = true
 
 -- whether it is a write
 abbrev pub is_write : Decoded → Bool
-is_write (Fit o) = onRegister o false puts
+is_write (Fit o) = on_register o false puts
 is_write Unfit = false
 
 -- the first of the two that is not 0

@@ -25,8 +25,8 @@ use Rattle.written.proofs.Standing.{Stands, stands, stands_then, stands_behind, 
 digit_so : (d : ℕ) → d < 10 → is_digit (48 + d) ≡ true
 digit_so d h = and_both (leb 48 (48 + d)) (leb (48 + d) 57) (le-leb 48 (48 + d) (omega arith)) (le-leb (48 + d) 57 (omega arith))
 
-first-digit : (b : ℕ) → is_digit b ≡ true → decimal (b - 48) ≡ b ∷ []
-first-digit b e =
+first_digit : (b : ℕ) → is_digit b ≡ true → decimal (b - 48) ≡ b ∷ []
+first_digit b e =
     let low : 48 ≤ b = digit_low b e in
     let is : 48 + (b - 48) ≡ b = omega arith in
     decimal_small (b - 48) (omega (arith, digit_high b e)) ∙ rw is
@@ -84,7 +84,7 @@ unfolding first_of
 first_found stop [] i w next e = wrong_is_no_value e
 first_found stop (b ∷ rest) i w next e =
     either (is_digit b)
-    (λ digit. found_more b [] rest (first-digit b digit)
+    (λ digit. found_more b [] rest (first_digit b digit)
     (rest_found stop rest (b - 48) (i + 1) w next (omega (arith, digit_high b digit)) (rw digit at e)))
     (λ other. wrong_is_no_value (rw other at e))
 

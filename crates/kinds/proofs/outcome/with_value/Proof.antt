@@ -5,7 +5,7 @@ use mir.Syntax.{w64}
 use mir.Facts.{to_z-of_z}
 use Rattle.kinds.specs.declared.outcome.Recalled.TheVariants.{Given, Unshaped}
 use Rattle.kinds.specs.declared.outcome.Outcome.TheVariants.{Value}
-use Rattle.kinds.proofs.Within.{compared, out_low, out_high, in-range}
+use Rattle.kinds.proofs.Within.{compared, out_low, out_high, in_range_lem}
 use Rattle.kinds.proofs.outcome.with_value.Statement.{statement}
 use Rattle.kinds.proofs.outcome.with_value.Tie as tie
 
@@ -30,7 +30,7 @@ returns c =
     let a = c.before.before.args in
     let f = c.before.before.ranges in
     let not-above = compared a.high a.b false f.high f.b c.if-high-b.false in
-    rw (to_z-of_z {w = w64} f.b) (in-range (λ v. Given (Value v)) Unshaped a.b a.low a.high (not-below c.before) not-above)
+    rw (to_z-of_z {w = w64} f.b) (in_range_lem (λ v. Given (Value v)) Unshaped a.b a.low a.high (not-below c.before) not-above)
 
 pub with_value_spec : {M : Type 1} → statement M
 with_value_spec = tie.close (tie.spec returns-then-b-low returns-then-high-b returns)

@@ -6,7 +6,7 @@ use mir.Syntax.{w64}
 use mir.Facts.{to_z-of_z}
 use borrow.Author.Rules.{rules}
 use Rattle.kinds.specs.declared.range.Ranged.TheVariants.{In, Out}
-use Rattle.kinds.proofs.Within.{bound, out_low, out_high, in-range, in_bits}
+use Rattle.kinds.proofs.Within.{bound, out_low, out_high, in_range_lem, in_bits}
 use Rattle.kinds.proofs.range.within.Statement.{statement}
 use Rattle.kinds.proofs.range.within.Tie as tie
 
@@ -45,7 +45,7 @@ returns : tie.Need-returns
 returns c =
     let a = c.before.before.args in
     rw (to_z-of_z {w = w64} c.before.before.ranges.x)
-    (in-range (λ z. In (nat_abs z)) Out a.x (pos a.low) (pos a.high) (not-below c.before) (not-above c))
+    (in_range_lem (λ z. In (nat_abs z)) Out a.x (pos a.low) (pos a.high) (not-below c.before) (not-above c))
 
 pub within_spec : {M : Type 1} → statement M
 within_spec = tie.close (tie.spec overflow_cast-low returns-then-x-low overflow_cast-high returns-then-high-x overflow_cast-result returns)

@@ -5,7 +5,7 @@ use mir.Syntax.{w32, w64}
 use mir.Val.{SFits}
 use mir.Facts.{to_z-of_z}
 use Rattle.kinds.specs.declared.range.SignedRanged.TheVariants.{In, Out}
-use Rattle.kinds.proofs.Within.{widens, signed_bound, out_low, out_high, in-range, in_signed_bits}
+use Rattle.kinds.proofs.Within.{widens, signed_bound, out_low, out_high, in_range_lem, in_signed_bits}
 use Rattle.kinds.proofs.range.within_signed.Statement.{statement}
 use Rattle.kinds.proofs.range.within_signed.Tie as tie
 
@@ -46,7 +46,7 @@ returns : tie.Need-returns
 returns c =
     let a = c.before.before.args in
     rw (to_z-of_z {w = w64} c.before.before.ranges.x, to_z-of_z {w = w32} (fits_bits c))
-    (in-range In Out a.x a.least a.most (not-below c.before) (not-above c))
+    (in_range_lem In Out a.x a.least a.most (not-below c.before) (not-above c))
 
 pub within_signed_spec : {M : Type 1} → statement M
 within_signed_spec = tie.close (tie.spec overflow_cast-least returns-then-x-least overflow_cast-most returns-then-most-x overflow_cast-result returns)

@@ -106,8 +106,8 @@ numbers_of-result-requires c κs = search rules
 row_of : (e : tie.Else-code-ne0) → T e < rows_most
 row_of e = let a = access e in (ready (S e) (T e) a.formed a.known a.asks).row
 
-place-of : (e : tie.Else-code-ne0) → (S e).listed < places_most
-place-of e = has_place (S e) (T e) (access e)
+place_of_lem : (e : tie.Else-code-ne0) → (S e).listed < places_most
+place_of_lem e = has_place (S e) (T e) (access e)
 
 answer-of : (c : tie.After-numbers_of-result) → c.numbers_of-result.result.a < 255
 answer-of c = rw c.numbers_of-result.ensures (small_a c.before.before.before.before.asking-1.given.0.0.outcome)
@@ -134,13 +134,13 @@ overflow_cast-self-2 : tie.Need-overflow_cast-self-2
 overflow_cast-self-2 c = omega (arith, row_of (begun c.before.before))
 
 offset_bounds-self-listed : tie.Need-offset_bounds-self-listed
-offset_bounds-self-listed c = omega (arith, place-of (begun c.before.before))
+offset_bounds-self-listed c = omega (arith, place_of_lem (begun c.before.before))
 
 bounds-self-listed : tie.Need-bounds-self-listed
-bounds-self-listed c = place-of (begun c.before.before)
+bounds-self-listed c = place_of_lem (begun c.before.before)
 
 overflow_add-self-3 : tie.Need-overflow_add-self-3
-overflow_add-self-3 c = omega (arith, place-of (begun c.before.before))
+overflow_add-self-3 c = omega (arith, place_of_lem (begun c.before.before))
 
 overflow_cast-self-3 : tie.Need-overflow_cast-self-3
 overflow_cast-self-3 c = omega (arith, row_of (begun c.before.before))
@@ -152,10 +152,10 @@ bounds-self-k-3 : tie.Need-bounds-self-k-3
 bounds-self-k-3 c = row_of (begun c.before.before)
 
 overflow_add-self-4 : tie.Need-overflow_add-self-4
-overflow_add-self-4 c = omega (arith, place-of (begun c.before.before))
+overflow_add-self-4 c = omega (arith, place_of_lem (begun c.before.before))
 
 overflow_cast-self-4 : tie.Need-overflow_cast-self-4
-overflow_cast-self-4 c = omega (arith, place-of (begun c.before.before))
+overflow_cast-self-4 c = omega (arith, place_of_lem (begun c.before.before))
 
 offset_bounds-self-k-3 : tie.Need-offset_bounds-self-k-3
 offset_bounds-self-k-3 c = omega (arith, row_of (begun c.before.before))

@@ -17,8 +17,8 @@ invariant-loop file at stop first v₀ i₀ v i = (i ≤ length file) × (v ≤ 
 abbrev decreases-loop : tie.decreases-loop-i
 decreases-loop file at stop first v₀ i₀ v i = length file - i
 
-first-digit : (e : tie.Else-not-is_digit invariant-loop decreases-loop) → let a = e.before.before.before.before.before.args in is_digit (get_or a.file.now a.at 0) ≡ true
-first-digit e = sym e.before.is_digit.ensures ∙ not-false _ e.if-not-is_digit.false-raw
+first_digit : (e : tie.Else-not-is_digit invariant-loop decreases-loop) → let a = e.before.before.before.before.before.args in is_digit (get_or a.file.now a.at 0) ≡ true
+first_digit e = sym e.before.is_digit.ensures ∙ not-false _ e.if-not-is_digit.false-raw
 
 -- one turn: the byte at hand decides
 turn : (e : tie.In-loop-i invariant-loop decreases-loop) → let a = e.before.before.before.before.before.before.before.before.args in
@@ -48,14 +48,14 @@ wide-v-requires : tie.Need-wide-v-requires invariant-loop decreases-loop
 wide-v-requires c κs = search rules
 
 overflow_sub-v : tie.Need-overflow_sub-v invariant-loop decreases-loop
-overflow_sub-v c = let d = c.before in omega (arith, digit_low (get_or d.before.before.before.before.before.args.file.now d.before.before.before.before.before.args.at 0) (first-digit d))
+overflow_sub-v c = let d = c.before in omega (arith, digit_low (get_or d.before.before.before.before.before.args.file.now d.before.before.before.before.before.args.at 0) (first_digit d))
 
 overflow_add-i : tie.Need-overflow_add-i invariant-loop decreases-loop
 overflow_add-i c = search rules
 
 loop-i-init : tie.Need-loop-i-init invariant-loop decreases-loop
 loop-i-init c = let d = c.before in
-    (search rules, omega (arith, digit_high (get_or d.before.before.before.before.before.args.file.now d.before.before.before.before.before.args.at 0) (first-digit d)), rw c.wide-v.ensures (number_start _ _ _ d.before.before.before.if-file-at.false ∙ simp (first-digit d)))
+    (search rules, omega (arith, digit_high (get_or d.before.before.before.before.before.args.file.now d.before.before.before.before.before.args.at 0) (first_digit d)), rw c.wide-v.ensures (number_start _ _ _ d.before.before.before.if-file-at.false ∙ simp (first_digit d)))
 
 bounds-file-i : tie.Need-bounds-file-i invariant-loop decreases-loop
 bounds-file-i c = search rules
