@@ -1,5 +1,7 @@
 // The kinds of document 01 and requests Q-1 to Q-3: their states and operations, their limits and numbers, the state that each opens with, and its conflict table.
 // A kind's own part is in its own file. specs/ says besides what an operation does; `account`, `register`, `counter`, `bin` and `serial` have the functions that do it.
+#![tactic(auto)]
+
 mod account;
 mod bin;
 mod counter;
