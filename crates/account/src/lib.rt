@@ -1,4 +1,6 @@
 // The account: which operations it takes, what each does, the results that each allows and its classes of answer.
+#![tactic(auto)]
+
 ghost use Rattle.std.specs.Prelude.{◌≡◌};
 ghost use Rattle.kinds.specs.Account.{decode_of, step_of, Room, shape_of, class_of};
 

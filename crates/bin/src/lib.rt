@@ -1,4 +1,6 @@
 // The bin of serial-numbered parts: which operations it takes, what each does, the results that each allows and its classes of answer.
+#![tactic(auto)]
+
 ghost use Rattle.std.specs.Prelude.{◌≡◌, ◌≤◌};
 ghost use Rattle.kinds.specs.Bin.{part_most, bin_of, decode_of, is_in, step_of, Room, shape_of, class_of};
 ghost use Rattle.kinds.specs.declared.State.TheVariants as S;

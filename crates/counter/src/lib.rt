@@ -1,4 +1,6 @@
 // The counter: which operations it takes, what each does, the results that each allows and its classes of answer.
+#![tactic(auto)]
+
 ghost use Rattle.std.specs.Prelude.{◌≡◌};
 ghost use Rattle.kinds.specs.Counter.{decode_of, step_of, Room, shape_of, class_of};
 

@@ -1,4 +1,6 @@
 // The register: which operations it takes, what each does, the results that each allows and its classes of answer.
+#![tactic(auto)]
+
 ghost use Rattle.std.specs.Prelude.{◌≡◌};
 ghost use Rattle.kinds.specs.Register.{decode_of, step_of, shape_of, class_of};
 

@@ -1,5 +1,7 @@
 // The serial objects of document 01 and requests Q-1 to Q-3: what each kind takes, what an operation does to a state and answers, and which answers conflict.
 // The definitions of all this, and what is proved of them, are in `kinds`. A kind's own part is in its own crate; here the kinds are told apart.
+#![tactic(auto)]
+
 ghost use Rattle.std.specs.Prelude.{◌≡◌};
 ghost use Rattle.kinds.specs.Kinds.{kind_of, opened_of, start_of, decode_of, idle, step_of, Room, shape_of, recall_of, class_of, table_of, conflict_of};
 ghost use Rattle.kinds.specs.Table.{entry};
