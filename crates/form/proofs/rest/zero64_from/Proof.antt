@@ -40,10 +40,10 @@ loop-k-preserved c =
     let a = c.before.before in
     let x = at_z a.before.args.column.now a.loop-k.k in
     let zero = bits_zero x (record { sfits = c.any-1.given }) in
-    (omega arith, omega arith, zero_turn _ _ _ a.loop-k.any-1 (of_z w64 x) a.loop-k.invariant.0 a.loop-k.invariant.2 zero)
+    (omega arith, omega arith, zero_turn _ _ _ a.loop-k.any-bits (of_z w64 x) a.loop-k.invariant.0 a.loop-k.invariant.2 zero)
 
 returns : tie.Need-returns invariant-loop decreases-loop
-returns c = zero_end _ _ _ _ c.before.loop-k.any-1 c.before.loop-k.invariant.2 c.before.loop-k.invariant.1 c.loop-k-test.false
+returns c = zero_end _ _ _ _ c.before.loop-k.any-bits c.before.loop-k.invariant.2 c.before.loop-k.invariant.1 c.loop-k-test.false
 
 pub zero64_from_spec : {M : Type 1} → statement M
 zero64_from_spec = tie.close (tie.spec invariant-loop decreases-loop loop-k-init offset_bounds-column-k bounds-column-k overflow_add-k loop-k-smaller loop-k-preserved returns)
