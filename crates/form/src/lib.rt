@@ -1,4 +1,6 @@
 // The form rules of a store, tested over its columns. Each test is one pass over the rows in use and one over the rest.
+#![tactic(auto)]
+
 mod access;
 mod climb;
 mod lists;

@@ -1,4 +1,6 @@
 // Why a call is refused: each call's refusals, tried in document 01's order over lent columns. A code of 0 is none.
+#![tactic(auto)]
+
 mod ask;
 mod create;
 mod finish;
