@@ -149,8 +149,7 @@ pub fn run_file(input: &[u8], output: &mut [u8; OUTPUT]) -> usize
 }
 
 // The same for C. An output of fewer than OUTPUT bytes is refused: 0, and not a byte written.
-#[unsafe(no_mangle)]
-pub extern "C" fn runner_run(input: &[u8], output: &mut [u8]) -> usize
+pub fn runner_run(input: &[u8], output: &mut [u8]) -> usize
     ensures { Exported input.now output.old result output.new }
 {
     if output.len() < OUTPUT {
