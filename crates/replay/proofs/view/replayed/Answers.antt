@@ -1,4 +1,4 @@
-use Rattle.std.proofs.Common.{arith, ◌≡◌, ◌≤◌, ℕ, List, length, ap, ◌∙◌}
+use Rattle.std.proofs.Common.{arith, ◌≤◌, ℕ, List, length, ap, ◌∙◌}
 use mathlib.Core.Path.{ap₂}
 use mir.Facts.{to_z-of_z}
 use Rattle.below.proofs.Climb.{lower_to}
