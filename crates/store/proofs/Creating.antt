@@ -74,6 +74,10 @@ module _ (s : Store) (p : ℕ) (child : Child) where
         operation = small.1;
       }
 
+  pub accepted : (fine : Bool) (c : ℕ) → fine ≡ in_form s
+      → c ≡ first_code (create_order fine s.count s.parent s.state s.operation s.objects s.kind p child) → c ≡ 0 → Creatable s p (request_of child)
+  accepted fine c e q z = creatable (none_of c (create_decides fine c e q) z)
+
   pub create_refused : (c : ℕ) → c ≡ first_code (create_refusals s p child) → (c ≡ 0 → ⊥) → reply_of s (answer_of c 0 (pos 0)) ≡ create_of s p child
   unfolding create_of
   create_refused c e n =

@@ -21,6 +21,7 @@ use Rattle.store.specs.Refusal.{reply_of}
 use Rattle.refusal.specs.Exact.{NoneHolds}
 use Rattle.store.specs.Finish.{child_open, unanswered, committed, commit_of, aborted, abort_refusals, abort_of}
 use Rattle.store.proofs.Facts.{Form, form_facts, rooted}
+use Rattle.refusal.proofs.Order.{none_first}
 use Rattle.store.proofs.Refusals.{here, next, through, all_pass, stops, passes}
 
 -- what is known of a transaction that both may finish
@@ -44,6 +45,13 @@ finish_asks s fine e t = let f = form_facts s (sym e ∙ t) in (f.tree.few, root
 module _ (s : Store) (t : ℕ) where
   pub finish_decides : (fine : Bool) (c : ℕ) → fine ≡ in_form s → c ≡ first_code (finish_order fine s.count s.parent s.state t) → c ≡ first_code (abort_refusals s t)
   finish_decides fine c e q = q ∙ ap (λ b. first_code (finish_order b s.count s.parent s.state t)) e
+
+  -- where the code is 0
+  pub none_of : (fine : Bool) (c : ℕ) → fine ≡ in_form s → c ≡ first_code (finish_order fine s.count s.parent s.state t) → c ≡ 0 → NoneHolds (abort_refusals s t)
+  none_of fine c e q z = none_first (abort_refusals s t) refl (sym (finish_decides fine c e q) ∙ z)
+
+  pub accepted : (fine : Bool) (c : ℕ) → fine ≡ in_form s → c ≡ first_code (finish_order fine s.count s.parent s.state t) → c ≡ 0 → Finishable s t
+  accepted fine c e q z = finishable s t (none_of fine c e q z)
 
   pub abort_refused : (c : ℕ) → c ≡ first_code (abort_refusals s t) → (c ≡ 0 → ⊥) → reply_of s (answer_of c 0 (pos 0)) ≡ abort_of s t
   unfolding abort_of

@@ -15,7 +15,7 @@ use Rattle.store.specs.declared.Reply.{Reply}
 use Rattle.refusal.specs.Refusal.{Refusal, answer_of}
 use Rattle.refusal.specs.Order.{first_code}
 use Rattle.store.specs.Refusal.{reply_of, decide}
-use Rattle.refusal.proofs.Order.{apart, distinct, first_code, none_more, Plainly, code_here, code_next}
+use Rattle.refusal.proofs.Order.{apart, distinct, first_code_lem, none_more, Plainly, code_here, code_next}
 use Rattle.refusal.specs.Exact.{codes_of, nth, FirstToHold, NoneHolds}
 
 -- a call's way: past the refusals that do not hold, to the first that does or to what is done
@@ -87,11 +87,11 @@ module _ (s : Store) (done : Reply) (zero-code : done.answer.code ≡ 0) where
   given_first : (rs : List Refusal) (i : ℕ) → i < length rs → distinct (codes_of rs) ≡ true → code rs ≡ (nth rs i).answer.code → FirstToHold rs i
   given_first [] i h d e = absurd (omega arith)
   given_first (r ∷ rest) zero h d e =
-      let p = first_code r.answer.code (codes_of rest) d in
+      let p = first_code_lem r.answer.code (codes_of rest) d in
       ⊎_elim (λ t. record { holds = t; none_earlier = λ j l. absurd (omega arith) })
       (λ f. absurd (other r.answer.code rest p.0 p.1 (sym (passed r rest f) ∙ e))) (bool_or r.when)
   given_first (r ∷ rest) (suc i) h d e =
-      let p = first_code r.answer.code (codes_of rest) d in
+      let p = first_code_lem r.answer.code (codes_of rest) d in
       ⊎_elim (λ t. absurd (apart_at r.answer.code rest i (omega arith) p.1 (sym (taken r rest t) ∙ e)))
       (λ f. later r rest i f (given_first rest i (omega arith) p.2 (sym (passed r rest f) ∙ e))) (bool_or r.when)
 
@@ -104,7 +104,7 @@ module _ (s : Store) (done : Reply) (zero-code : done.answer.code ≡ 0) where
   pub none_holds : (rs : List Refusal) → distinct (codes_of rs) ≡ true → code rs ≡ 0 → NoneHolds rs
   none_holds [] d e = λ i h. absurd (omega arith)
   none_holds (r ∷ rest) d e =
-      let p = first_code r.answer.code (codes_of rest) d in
+      let p = first_code_lem r.answer.code (codes_of rest) d in
       ⊎_elim (λ t. absurd (eqb-false r.answer.code 0 (not-true _ p.0) (sym (taken r rest t) ∙ e)))
       (λ f. none_more r rest f (none_holds rest p.2 (sym (passed r rest f) ∙ e))) (bool_or r.when)
 

@@ -1,6 +1,6 @@
 -- The ways of respond.
 use Prim.Native.Nat.{ℕ, ◌<◌, ◌≤◌}
-use mathlib.Core.Path.{◌≡◌, refl, ap, ◌∙◌}
+use mathlib.Core.Path.{◌≡◌, refl, sym, ap, ◌∙◌}
 use mathlib.Core.Bool.{Bool, true}
 use mathlib.Core.List.{[], ◌∷◌}
 use native.Mathlib.Omega.{arith}
@@ -25,6 +25,7 @@ use Rattle.store.specs.Refusal.{reply_of}
 use Rattle.refusal.specs.Exact.{NoneHolds}
 use Rattle.store.specs.Respond.{asking_of, wait_for, responded, must_wait, ask_refusals, respond_of}
 use Rattle.store.proofs.Facts.{form_facts}
+use Rattle.refusal.proofs.Order.{none_first}
 use Rattle.store.proofs.Refusals.{here, next, through, stops, passes}
 use Rattle.store.proofs.Asking.{ready}
 use Rattle.store.proofs.Waits.{asking_known, asking_as}
@@ -61,6 +62,15 @@ module _ (s : Store) (t : ℕ) where
   pub ask_decides : (fine : Bool) (c : ℕ) → fine ≡ in_form s
       → c ≡ first_code (ask_order fine s.count s.parent s.state s.operation s.outcome t) → c ≡ first_code (ask_refusals s t)
   ask_decides fine c e q = q ∙ ap (λ b. first_code (ask_order b s.count s.parent s.state s.operation s.outcome t)) e
+
+  -- where the code is 0
+  pub none_of : (fine : Bool) (c : ℕ) → fine ≡ in_form s
+      → c ≡ first_code (ask_order fine s.count s.parent s.state s.operation s.outcome t) → c ≡ 0 → NoneHolds (ask_refusals s t)
+  none_of fine c e q z = none_first (ask_refusals s t) refl (sym (ask_decides fine c e q) ∙ z)
+
+  pub accepted : (fine : Bool) (c : ℕ) → fine ≡ in_form s
+      → c ≡ first_code (ask_order fine s.count s.parent s.state s.operation s.outcome t) → c ≡ 0 → Askable s t
+  accepted fine c e q z = askable (none_of fine c e q z)
 
   -- an unanswered access is on no list, and there is a place for it
   pub has_place : Askable s t → s.listed < places_most
