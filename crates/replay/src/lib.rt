@@ -1,4 +1,6 @@
 // What an access is answered from: its row read, and the view replayed.
+#![tactic(auto)]
+
 pub mod access;
 mod chain;
 pub mod view;

@@ -1,4 +1,6 @@
 // The lock store: its columns, and the calls that take a store and hand it back with an answer.
+#![tactic(auto)]
+
 mod create;
 mod finish;
 mod formed;

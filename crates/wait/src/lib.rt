@@ -1,4 +1,6 @@
 // The first access that a response must wait for.
+#![tactic(auto)]
+
 ghost use Rattle.std.specs.Prelude.{◌≡◌, ℕ, ◌<◌, ◌≤◌, eqb};
 ghost use Rattle.below.specs.Below.{first_below};
 ghost use Rattle.below.specs.Climb.{Lower};
