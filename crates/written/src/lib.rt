@@ -1,4 +1,5 @@
 // The run file as it is written and as it is read: definitions in specs/, their laws in proofs/. Types that `runfile` shares with them; no functions.
+#![tactic(auto)]
 
 // What a call line asks.
 #[derive(Clone, Copy)]
