@@ -1,0 +1,10 @@
+use Rattle.std.proofs.Common.{◌+◌, ◌*◌, ◌≤◌, length, ◌≡◌, ℕ, ◌-◌, ◌<◌}
+use Rattle.columns.specs.Column.{rows_most}
+use Rattle.probe.specs.Sizes.{record_bytes}
+use Rattle.probe.proofs.reading.number_at.Given as goal
+
+abbrev pub invariant-loop-left : goal.invariant-loop-left
+invariant-loop-left l = l.left ≤ l.width
+
+abbrev pub decreases-loop-left : goal.decreases-loop-left
+decreases-loop-left l = l.left
