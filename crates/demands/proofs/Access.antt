@@ -1,7 +1,7 @@
 -- Which transactions a history has as accesses to its object.
 use Prim.Native.Nat.{ℕ}
 use mathlib.Core.Path.{◌≡◌, refl, sym, ap, ◌∙◌}
-use mathlib.Core.Bool.{true, false, ◌&&◌, false≢true, or-true}
+use mathlib.Core.Bool.{true, ◌&&◌, false≢true, or-true}
 use mathlib.Core.Logic.{⊎_elim}
 use mathlib.Core.List.Memᴰ
 use mathlib.Core.List.{[], ◌∷◌}

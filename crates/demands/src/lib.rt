@@ -1,1 +1,3 @@
+#![tactic(auto)]
+
 // The customer's demands: statements in specs/, theorems in proofs/. No code.

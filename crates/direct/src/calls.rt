@@ -50,7 +50,14 @@ pub(crate) fn plain(rt: &impl Print, s: Store, parent: u32) -> io::Result<Store>
     shown(rt, s.create(parent, Child::Plain))
 }
 
-pub(crate) fn access(rt: &impl Print, s: Store, parent: u32, object: u32, operation: u32, argument: i64) -> io::Result<Store> {
+pub(crate) fn access(
+    rt: &impl Print,
+    s: Store,
+    parent: u32,
+    object: u32,
+    operation: u32,
+    argument: i64,
+) -> io::Result<Store> {
     let request = Request {
         object: object,
         operation: operation,

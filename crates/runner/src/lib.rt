@@ -1,4 +1,6 @@
 // Runs a run file: its objects opened and its calls made on a store, one line printed for each answer.
+#![tactic(auto)]
+
 ghost use Rattle.std.specs.Prelude.{◌≡◌, map, ◌+◌, ◌*◌, ◌≤◌, length};
 ghost use Rattle.text.specs.Text.{answer_most};
 ghost use Rattle.text.specs.Puts.{Puts};

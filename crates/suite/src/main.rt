@@ -3,9 +3,9 @@
 
 use input::read_full;
 use runner::{INPUT, OUTPUT};
+use std::env;
 use std::fs::{Files, open};
 use std::io::{self, Write};
-use std::env;
 
 fn run_named(rt: &(impl Files + Print + Eprint), path: &str) -> io::Result<()> {
     let mut file = match open(rt, path) {

@@ -1,4 +1,4 @@
-use Rattle.std.proofs.Common.{◌≡◌, ◌+◌, ◌≤◌, length}
+use Rattle.std.proofs.Common.{◌≡◌, ◌+◌, ◌≤◌}
 use Rattle.written.specs.Written.{objects_most}
 use Rattle.written.specs.Items.{items_from}
 use Rattle.written.specs.Check.{object_item}

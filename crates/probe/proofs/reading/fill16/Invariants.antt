@@ -1,6 +1,4 @@
-use Rattle.std.proofs.Common.{length, ◌-◌, ◌+◌, ◌*◌, ◌≤◌, ◌≡◌, ℕ, ◌<◌}
-use Rattle.columns.specs.Column.{rows_most}
-use Rattle.probe.specs.Sizes.{record_bytes}
+use Rattle.std.proofs.Common.{length, ◌-◌, ◌≡◌}
 use Rattle.probe.proofs.reading.fill16.Given as goal
 
 abbrev pub invariant-loop-k : goal.invariant-loop-k

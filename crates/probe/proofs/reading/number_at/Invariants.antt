@@ -1,6 +1,4 @@
-use Rattle.std.proofs.Common.{◌+◌, ◌*◌, ◌≤◌, length, ◌≡◌, ℕ, ◌-◌, ◌<◌}
-use Rattle.columns.specs.Column.{rows_most}
-use Rattle.probe.specs.Sizes.{record_bytes}
+use Rattle.std.proofs.Common.{◌≤◌}
 use Rattle.probe.proofs.reading.number_at.Given as goal
 
 abbrev pub invariant-loop-left : goal.invariant-loop-left

@@ -1,5 +1,4 @@
-use Rattle.std.proofs.Common.{length, ◌-◌, ◌+◌, ◌*◌, ◌≤◌, ◌≡◌, ℕ, ◌<◌}
-use Rattle.probe.specs.Sizes.{reply_bytes}
+use Rattle.std.proofs.Common.{length, ◌-◌, ◌≤◌}
 use Rattle.probe.proofs.writing.put_column8.Given as goal
 
 abbrev pub invariant-loop-k : goal.invariant-loop-k

@@ -1,5 +1,4 @@
-use Rattle.std.proofs.Common.{◌-◌, ◌+◌, ◌*◌, ◌≤◌, length, ◌≡◌, ℕ, ◌<◌}
-use Rattle.probe.specs.Sizes.{reply_bytes}
+use Rattle.std.proofs.Common.{◌-◌, ◌≤◌}
 use Rattle.probe.proofs.writing.put_number.Given as goal
 
 abbrev pub invariant-loop-k : goal.invariant-loop-k
