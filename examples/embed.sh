@@ -6,7 +6,8 @@ set -eu
 file=$(readlink -f "${1:-"$(dirname "$0")/worked.run"}")
 cd "$(dirname "$0")/.."
 . bin/kit.sh
-quietly rt staticlib runner
+archive
+mkdir -p target
 if [ "$machine" = x86_64 ]; then compiler=${CC:-cc}; else compiler="${CC:-x86_64-linux-gnu-gcc} -static"; fi
 $compiler -O2 -Iinclude -o target/embed examples/embed.c target/staticlib/librunner.a
 run_static target/embed "$file"

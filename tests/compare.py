@@ -45,8 +45,8 @@ class Difference(Exception):
 
 
 def built(program, *words, data=b""):
-    """What a program writes that rt built; run as the scripts run it, on any processor."""
-    run = ["sh", "-c", '. bin/kit.sh; run_built "$@"', "sh", f"target/bin/{program}", *words]
+    """What a program of crates/ writes; run as the scripts run it, on any processor."""
+    run = ["sh", "-c", '. bin/kit.sh; run_built "$@"', "sh", program, *words]
     return subprocess.run(run, input=data, stdout=subprocess.PIPE, check=False).stdout
 
 
