@@ -28,12 +28,12 @@ module _ (s : Store) (t : ℕ) where
         w.blocked,
       )
 
-  blocked_waits : NoneHolds (ask_refusals s t) × Blocked s t → (respond_of s t).answer.code ≡ 13
-  blocked_waits (none, b) =
-      ((respond_decided s t).exactly 7 (omega arith)).1 (record {
-        holds = (waits_when s t b.asking (not-false _ (none 0 (omega arith))) b.asked).1 (b.holder, b.access, b.conflicting);
-        none_earlier = λ i h. asked_first i h ∙ none i (omega (arith, h));
-      })
-
   pub waits_exactly : ((respond_of s t).answer.code ≡ 13) ↔ (NoneHolds (ask_refusals s t) × Blocked s t)
   waits_exactly = (waits_blocked, blocked_waits)
+    where
+      blocked_waits : NoneHolds (ask_refusals s t) × Blocked s t → (respond_of s t).answer.code ≡ 13
+      blocked_waits (none, b) =
+          ((respond_decided s t).exactly 7 (omega arith)).1 (record {
+            holds = (waits_when s t b.asking (not-false _ (none 0 (omega arith))) b.asked).1 (b.holder, b.access, b.conflicting);
+            none_earlier = λ i h. asked_first i h ∙ none i (omega (arith, h));
+          })

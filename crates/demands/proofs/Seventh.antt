@@ -48,12 +48,10 @@ wrote x n = record { who = x; did = record { ask = O.Register (Write n); reply =
 abbrev pub expected : List (Step (object_of (kind_in seventh)))
 expected = wrote 2 9 ∷ wrote 1 3 ∷ []
 
-computed : total (at (quick_after start calls).parent) (locking_in seventh (quick_after start calls)) root ≡ expected
-unfolding quick_after open_of decide kind_of entry after_all work only laid numbered any_below all_below first_below set_below up_any climb climb_in
-computed = refl
-
 pub seventh_work : Work (history_in seventh) root expected
+unfolding quick_after open_of decide kind_of entry after_all work only laid numbered any_below all_below first_below set_below up_any climb climb_in
 seventh_work =
+    let computed : total (at (quick_after start calls).parent) (locking_in seventh (quick_after start calls)) root ≡ expected = refl in
     subst (λ l. Work (history_in seventh) root l)
-    (ap (λ s. total (at s.parent) (locking_in seventh s) root) (quick_after_lem start calls (open_sized _ _) (open_kept _ _)) ∙ computed)
+    (ap (λ s. total (at s.parent) (locking_in seventh s) root) (quick_after_lem start calls (open_sized seventh.kinds seventh.openings) (open_kept seventh.kinds seventh.openings)) ∙ computed)
     (demand_3.views seventh root (inl refl) (root_alive (history_in seventh) (reached seventh).accepted))
