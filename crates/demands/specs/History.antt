@@ -17,7 +17,7 @@ use Rattle.refusal.specs.declared.Child.{Child}
 use Rattle.refusal.specs.declared.Child.TheVariants.{Plain, Access}
 use Rattle.store.specs.Calls.{Call, create, respond, commit, abort, reply_to}
 
--- the outcome that a and b stand for: a is 1 for OK, 0 for FAIL, 2 for a value; b is the value. No other numbers are handed out (`Handed-out`).
+-- the outcome that a and b stand for: a is 1 for OK, 0 for FAIL, 2 for a value; b is the value. No other numbers are handed out (`handed_out`).
 abbrev pub outcome_for : ℕ → ℤ → Outcome
 outcome_for a b = cond (eqb a ok) Ok (cond (eqb a fail) Fail (Value b))
 
