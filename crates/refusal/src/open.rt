@@ -5,6 +5,7 @@ ghost use Rattle.refusal.specs.Open.{openable};
 use form::{OBJECTS, opens};
 
 // Whether each kind has an opening value in its range, for some object and at most 64.
+#[tactic(auto, using(crate::proofs::Opens::uneven, crate::proofs::Opens::none, crate::proofs::Opens::many))]
 pub fn openable<'a>(kinds: &'a [u8], openings: &'a [i64]) -> bool
     ensures { result ≡ openable kinds.now openings.now }
 {

@@ -19,6 +19,7 @@ fn is_kind(letter: u8) -> bool
 }
 
 // The byte at a place where a space follows it, and 0 elsewhere.
+#[tactic(auto, using(written::proofs::Letters::letter_past), unfolding(written::specs::Line::letter_at))]
 fn letter_at(file: &[u8], at: usize) -> u8
     ensures { result ≡ letter_at file.now at }
 {

@@ -30,6 +30,7 @@ fn is_digit(b: u8) -> bool
 }
 
 // The decimal number at a place, ended by the byte `stop`.
+#[tactic(auto, using(crate::proofs::Numbers::number_end, crate::proofs::Numbers::number_start, crate::proofs::Numbers::rest_end, crate::proofs::Numbers::rest_step, crate::proofs::Numbers::digit_low, crate::proofs::Numbers::digit_high))]
 pub fn number_at(file: &[u8], at: usize, stop: u8) -> Number
     ensures { result ≡ number_at stop file.now at }
 {

@@ -1,4 +1,4 @@
-use Rattle.std.proofs.Common.{◌≡◌, ℕ, ◌<◌, ◌≤◌, Bool, true, false, List, [], ◌∷◌, ◌++◌, refl, sym, ap, ◌∙◌}
+use Rattle.std.proofs.Common.{rules, ◌≡◌, ℕ, ◌<◌, ◌≤◌, Bool, true, false, List, [], ◌∷◌, ◌++◌, refl, sym, ap, ◌∙◌}
 use mathlib.Core.Bool.{not}
 use lib.Dec.{eqb, ltb, leb}
 use borrow.Author.Tests.{lt-ltb, le-ltb, eq-eqb, ne_eqb, le-leb, lt-leb}
@@ -84,20 +84,24 @@ returns-then-operation-p-ne0 c =
 
 pub returns-then-inactive-ne0 : goal.returns-then-inactive-ne0
 returns-then-inactive-ne0 c =
-    idle _ _ _ _ _ c.args.objects c.args.kind.now _ c.args.child c.if-not-fine.false c.if-count-p.false c.if-operation-p-ne0.false _
+    let plain : at c.args.operation.now c.args.p ≡ 0 = search rules in
+    idle _ _ _ _ _ c.args.objects c.args.kind.now _ c.args.child c.if-not-fine.false c.if-count-p.false plain _
     c.inactive_code-inactive.ensures c.if-inactive-ne0.true
 
 pub returns-then-unfit-ne0 : goal.returns-then-unfit-ne0
 returns-then-unfit-ne0 c =
-    unfit _ _ _ _ _ c.args.objects c.args.kind.now _ c.args.child c.if-not-fine.false c.if-count-p.false c.if-operation-p-ne0.false _
+    let plain : at c.args.operation.now c.args.p ≡ 0 = search rules in
+    unfit _ _ _ _ _ c.args.objects c.args.kind.now _ c.args.child c.if-not-fine.false c.if-count-p.false plain _
     c.inactive_code-inactive.ensures c.if-inactive-ne0.false _ c.child_code-unfit.ensures c.if-unfit-ne0.true
 
 pub returns-then-count-ge-COUNT_MOST : goal.returns-then-count-ge-COUNT_MOST
 returns-then-count-ge-COUNT_MOST c =
-    no_room _ _ _ _ _ c.args.objects c.args.kind.now _ c.args.child c.if-not-fine.false c.if-count-p.false c.if-operation-p-ne0.false _
+    let plain : at c.args.operation.now c.args.p ≡ 0 = search rules in
+    no_room _ _ _ _ _ c.args.objects c.args.kind.now _ c.args.child c.if-not-fine.false c.if-count-p.false plain _
     c.inactive_code-inactive.ensures c.if-inactive-ne0.false _ c.child_code-unfit.ensures c.if-unfit-ne0.false c.if-count-ge-COUNT_MOST.true
 
 pub returns-else-count-ge-COUNT_MOST : goal.returns-else-count-ge-COUNT_MOST
 returns-else-count-ge-COUNT_MOST c =
-    room _ _ _ _ _ c.args.objects c.args.kind.now _ c.args.child c.if-not-fine.false c.if-count-p.false c.if-operation-p-ne0.false _
+    let plain : at c.args.operation.now c.args.p ≡ 0 = search rules in
+    room _ _ _ _ _ c.args.objects c.args.kind.now _ c.args.child c.if-not-fine.false c.if-count-p.false plain _
     c.inactive_code-inactive.ensures c.if-inactive-ne0.false _ c.child_code-unfit.ensures c.if-unfit-ne0.false c.if-count-ge-COUNT_MOST.false
