@@ -13,7 +13,7 @@ use Rattle.output.specs.Output.{output_most}
 use Rattle.runner.specs.Export.{Exported}
 use Rattle.runner.proofs as of
 
-exported_one : {input before exit other : List ℕ} {r q : ℕ} → Exported input before r exit → Exported input before q other → (r ≡ q) × (exit ≡ other)
+pub exported_one : {input before exit other : List ℕ} {r q : ℕ} → Exported input before r exit → Exported input before q other → (r ≡ q) × (exit ≡ other)
 exported_one {before = before} e f =
     ⊎_elim (λ enough. puts_one (e.runs enough) (f.runs enough)) (λ few. whole (e.refuses few) (f.refuses few)) (le_or output_most (length before))
 
