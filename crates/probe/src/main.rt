@@ -10,6 +10,10 @@ use crate::layout::{RECORD, REPLY};
 use input::read_full;
 use std::io::{self, Write};
 
+fn send(rt: &impl Print, reply: &[u8; REPLY]) -> io::Result<()> {
+    io::writer(rt).write_all(reply)
+}
+
 // Whether a whole record came, to which the reply has gone.
 fn answer_one(rt: &HostRuntime) -> io::Result<bool> {
     let mut bytes = [0u8; RECORD];
@@ -19,7 +23,7 @@ fn answer_one(rt: &HostRuntime) -> io::Result<bool> {
     }
     let mut out = [0u8; REPLY];
     writing::put_reply(&mut out, reading::reply_to(&bytes));
-    io::writer(rt).write_all(&out)?;
+    send(rt, &out)?;
     Ok(true)
 }
 
