@@ -18,7 +18,7 @@ SINCE, CHANGE = {"before": "before", "product": "now"}, {"now / before": ("produ
 
 def counted(place, program, name, runs):
     """Instructions by function, and what was printed. A short name and no environment: so the stack lies the same wherever this runs."""
-    command = [shutil.which("qemu-x86_64"), "-cpu", "qemu64", "-plugin", "./libcount.so,out=count", "./" + program, str(runs)]
+    command = [shutil.which("qemu-x86_64"), "-cpu", "Nehalem", "-plugin", "./libcount.so,out=count", "./" + program, str(runs)]
     with open(f"{place}/{name}.run") as file:
         printed = subprocess.run(command, cwd=place, env={}, stdin=file, stdout=subprocess.PIPE, check=True).stdout
     counts = collections.Counter()

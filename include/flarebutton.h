@@ -1,4 +1,4 @@
-/* The runner of Flarebutton, for C. The archive is made by `rt lib` in crates/runner_c: out/librunner_c.a there, for x86-64.
+/* The runner of Flarebutton, for C. The archive is made by `rt lib` in crates/runner_c: out/librunner_c.a there, for x86-64-v2.
  * examples/embed.sh copies it to target/staticlib/librunner.a and links that. */
 #ifndef FLAREBUTTON_H
 #define FLAREBUTTON_H
