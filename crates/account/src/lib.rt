@@ -2,29 +2,28 @@
 #![tactic(auto)]
 
 ghost use Rattle.std.specs.Prelude.{◌≡◌};
-ghost use Rattle.kinds.specs.Account.{decode_of, step_of, Room, shape_of, class_of};
+ghost use Rattle.kinds.specs.Range.{in_range};
+ghost use Rattle.kinds.specs.Account.{amount_least, amount_most, decode_of, step_of, Room, shape_of, class_of};
 
-use kinds::range::{Ranged, within};
-use kinds::{Account, AccountOperation, Class, Decoded, Operation, Outcome, Shape, State, Stepped};
+use kinds::range::within;
+use kinds::{Account, AccountOperation, Class, Operation, Outcome, Shape, State, Stepped};
 
-pub fn decode(operation: u32, argument: i64) -> Decoded
+pub fn decode(operation: u32, argument: i64) -> Option<Operation>
     ensures { result ≡ decode_of operation argument }
 {
-    match operation {
-        Account::BALANCE => match within(argument, Account::NO_ARGUMENT, Account::NO_ARGUMENT) {
-            Ranged::In(_) => Decoded::Fit(Operation::Account(AccountOperation::Balance)),
-            Ranged::Out => Decoded::Unfit,
-        },
-        Account::DEPOSIT => match within(argument, Account::AMOUNT_LEAST, Account::AMOUNT_MOST) {
-            Ranged::In(n) => Decoded::Fit(Operation::Account(AccountOperation::Deposit(n))),
-            Ranged::Out => Decoded::Unfit,
-        },
-        Account::WITHDRAW => match within(argument, Account::AMOUNT_LEAST, Account::AMOUNT_MOST) {
-            Ranged::In(n) => Decoded::Fit(Operation::Account(AccountOperation::Withdraw(n))),
-            Ranged::Out => Decoded::Unfit,
-        },
-        _ => Decoded::Unfit,
-    }
+    let decoded = match operation {
+        Account::BALANCE if argument == Account::NO_ARGUMENT => AccountOperation::Balance,
+        Account::DEPOSIT => AccountOperation::Deposit(amount(argument)?),
+        Account::WITHDRAW => AccountOperation::Withdraw(amount(argument)?),
+        _ => return None,
+    };
+    Some(Operation::Account(decoded))
+}
+
+fn amount(argument: i64) -> Option<u32>
+    ensures { result ≡ in_range argument amount_least amount_most Some None }
+{
+    within(argument, Account::AMOUNT_LEAST, Account::AMOUNT_MOST)
 }
 
 pub fn step(account: Account, operation: AccountOperation) -> Stepped
@@ -32,32 +31,15 @@ pub fn step(account: Account, operation: AccountOperation) -> Stepped
     ensures { result ≡ step_of account operation }
 {
     let balance = account.balance;
-    match operation {
-        AccountOperation::Balance => Stepped {
-            state: State::Account(account),
-            outcome: Outcome::Value(balance as i64),
-        },
-        AccountOperation::Deposit(n) => Stepped {
-            state: State::Account(Account {
-                balance: balance + n,
-            }),
-            outcome: Outcome::Ok,
-        },
-        AccountOperation::Withdraw(n) => {
-            if n <= balance {
-                Stepped {
-                    state: State::Account(Account {
-                        balance: balance - n,
-                    }),
-                    outcome: Outcome::Ok,
-                }
-            } else {
-                Stepped {
-                    state: State::Account(account),
-                    outcome: Outcome::Fail,
-                }
-            }
-        }
+    let (balance, outcome) = match operation {
+        AccountOperation::Balance => (balance, Outcome::Value(i64::from(balance))),
+        AccountOperation::Deposit(n) => (balance + n, Outcome::Ok),
+        AccountOperation::Withdraw(n) if n <= balance => (balance - n, Outcome::Ok),
+        AccountOperation::Withdraw(_) => (balance, Outcome::Fail),
+    };
+    Stepped {
+        state: State::Account(Account { balance }),
+        outcome,
     }
 }
 
@@ -71,24 +53,15 @@ pub fn shape_of(operation: AccountOperation) -> Shape
     }
 }
 
-pub fn class_of(operation: AccountOperation, outcome: Outcome) -> Class
+pub fn class_of(operation: AccountOperation, outcome: Outcome) -> Option<Class>
     ensures { result ≡ class_of operation outcome }
 {
-    match operation {
-        AccountOperation::Balance => match outcome {
-            Outcome::Value(v) => Class::Row(Account::BALANCE_ROW, v),
-            Outcome::Ok => Class::None,
-            Outcome::Fail => Class::None,
-        },
-        AccountOperation::Deposit(n) => match outcome {
-            Outcome::Ok => Class::Row(Account::DEPOSIT_ROW, n as i64),
-            Outcome::Fail => Class::None,
-            Outcome::Value(_) => Class::None,
-        },
-        AccountOperation::Withdraw(n) => match outcome {
-            Outcome::Ok => Class::Row(Account::DRAWN_ROW, n as i64),
-            Outcome::Fail => Class::Row(Account::SHORT_ROW, n as i64),
-            Outcome::Value(_) => Class::None,
-        },
-    }
+    let (row, key) = match (operation, outcome) {
+        (AccountOperation::Balance, Outcome::Value(v)) => (Account::BALANCE_ROW, v),
+        (AccountOperation::Deposit(n), Outcome::Ok) => (Account::DEPOSIT_ROW, i64::from(n)),
+        (AccountOperation::Withdraw(n), Outcome::Ok) => (Account::DRAWN_ROW, i64::from(n)),
+        (AccountOperation::Withdraw(n), Outcome::Fail) => (Account::SHORT_ROW, i64::from(n)),
+        _ => return None,
+    };
+    Some(Class { row, key })
 }

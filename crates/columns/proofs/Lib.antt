@@ -1,7 +1,7 @@
 pub mod Work
 pub mod Once
-pub mod Lists
+pub mod ListLaws
 pub mod Climbing
 pub mod Marks
-pub mod Masks
+pub mod Listing
 pub mod Sole

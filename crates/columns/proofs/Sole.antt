@@ -3,29 +3,32 @@ use Rattle.promise.specs.Sole.{Sole}
 use Rattle.promise.proofs.Sole.{sole}
 use Rattle.columns.proofs as of
 
-wide8 : Sole 0 of.wide.wide8.Kinds.ps of.wide.wide8.Kinds.r of.wide.wide8.Reads.Learnt
-wide8 κs a x y s t = sole
+rows : Sole 1 of.tree.Tree.rows.Kinds.ps of.tree.Tree.rows.Kinds.r of.tree.Tree.rows.Reads.Learnt
+rows κs a x y s t = sole
 
-word8 : Sole 0 of.wide.word8.Kinds.ps of.wide.word8.Kinds.r of.wide.word8.Reads.Learnt
-word8 κs a x y s t = sole
+parent_of : Sole 1 of.tree.Tree.parent_of.Kinds.ps of.tree.Tree.parent_of.Kinds.r of.tree.Tree.parent_of.Reads.Learnt
+parent_of κs a x y s t = sole
 
-at16 : Sole 1 of.tree.at16.Kinds.ps of.tree.at16.Kinds.r of.tree.at16.Reads.Learnt
-at16 κs a x y s t = sole
+has_aborted_above : Sole 1 of.tree.Tree.has_aborted_above.Kinds.ps of.tree.Tree.has_aborted_above.Kinds.r of.tree.Tree.has_aborted_above.Reads.Learnt
+has_aborted_above κs a x y s t = sole
 
-aborted_above : Sole 1 of.tree.aborted_above.Kinds.ps of.tree.aborted_above.Kinds.r of.tree.aborted_above.Reads.Learnt
-aborted_above κs a x y s t = sole
-
-marks_above : Sole 1 of.tree.marks_above.Kinds.ps of.tree.marks_above.Kinds.r of.tree.marks_above.Reads.Learnt
+marks_above : Sole 1 of.tree.Tree.marks_above.Kinds.ps of.tree.Tree.marks_above.Kinds.r of.tree.Tree.marks_above.Reads.Learnt
 marks_above κs a x y s t = sole
 
-first_open_child : Sole 1 of.tree.first_open_child.Kinds.ps of.tree.first_open_child.Kinds.r of.tree.first_open_child.Reads.Learnt
+first_open_child : Sole 1 of.tree.Tree.first_open_child.Kinds.ps of.tree.Tree.first_open_child.Kinds.r of.tree.Tree.first_open_child.Reads.Learnt
 first_open_child κs a x y s t = sole
 
-entry : Sole 1 of.order.entry.Kinds.ps of.order.entry.Kinds.r of.order.entry.Reads.Learnt
+entry : Sole 1 of.lists.Lists.entry.Kinds.ps of.lists.Lists.entry.Kinds.r of.lists.Lists.entry.Reads.Learnt
 entry κs a x y s t = sole
 
-dropped : Sole 1 of.order.dropped.Kinds.ps of.order.dropped.Kinds.r of.order.dropped.Reads.Learnt
+holder_of : Sole 1 of.lists.Lists.holder_of.Kinds.ps of.lists.Lists.holder_of.Kinds.r of.lists.Lists.holder_of.Reads.Learnt
+holder_of κs a x y s t = sole
+
+place_of : Sole 1 of.lists.Lists.place_of.Kinds.ps of.lists.Lists.place_of.Kinds.r of.lists.Lists.place_of.Reads.Learnt
+place_of κs a x y s t = sole
+
+dropped : Sole 2 of.lists.Lists.dropped.Kinds.ps of.lists.Lists.dropped.Kinds.r of.lists.Lists.dropped.Reads.Learnt
 dropped κs a x y s t = sole
 
-moved : Sole 1 of.order.moved.Kinds.ps of.order.moved.Kinds.r of.order.moved.Reads.Learnt
+moved : Sole 1 of.lists.Lists.moved.Kinds.ps of.lists.Lists.moved.Kinds.r of.lists.Lists.moved.Reads.Learnt
 moved κs a x y s t = sole

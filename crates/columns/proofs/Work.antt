@@ -122,10 +122,6 @@ module _ (order : List ℕ) where
   work_each P n h k b = let l : k < n = rw length_work at b in rw (work_at n k l) (h k l)
 
 -- a list written to a column
-pub laid_none : (column : List ℕ) (k : ℕ) → column ≡ laid column k []
-unfolding laid
-laid_none column k = refl
-
 pub laid_snoc : (column : List ℕ) (k : ℕ) (l : List ℕ) (x : ℕ) → laid column k (l ++ (x ∷ [])) ≡ set (laid column k l) (k + length l) x
 unfolding laid
 laid_snoc column k [] x = rw add-zero
@@ -154,45 +150,24 @@ pub work_laid : (column l : List ℕ) → length l ≤ length column → work (l
 work_laid column l h =
     work_take _ (length l) (rw length_laid h) ∙ rw (laid_sets, sets-eq l column 0 (omega arith)) (take_at l _ (length l) refl)
 
--- one part of the list is written, and then the other
-pub laid_two : (column l m out one : List ℕ) (n : ℕ) → n ≡ 0 + length l → one ≡ laid column 0 l → out ≡ laid one n m → out ≡ laid column 0 (l ++ m)
-laid_two column l m out one n a b c = c ∙ rw (b, a) (sym (laid_append column 0 l m))
-
-pub length_two : (l m : List ℕ) (n r : ℕ) → n ≡ 0 + length l → r ≡ n + length m → r ≡ length (l ++ m)
-length_two l m n r a b = rw length-append (omega arith)
-
 -- the number of each entry, written to a column
-pub numbered_none : (column : List ℕ) (k : ℕ) → column ≡ numbered column k []
-unfolding numbered
-numbered_none column k = refl
-
 pub numbered_snoc : (column : List ℕ) (k : ℕ) (l : List ℕ) (x : ℕ) → numbered column k (l ++ (x ∷ [])) ≡ set (numbered column k l) x (k + length l + 1)
 unfolding numbered
 numbered_snoc column k [] x = ap (set column x) (omega arith)
 numbered_snoc column k (y ∷ l) x = numbered_snoc (set column y (suc k)) (suc k) l x ∙ ap (set (numbered (set column y (suc k)) (suc k) l) x) (omega arith)
 
--- a turn that numbers
-pub number_turn : (column order place : List ℕ) (k x : ℕ) → place ≡ numbered column 0 (work k order) → x ≡ at order k → set place x (k + 1) ≡ numbered column 0 (work (k + 1) order)
-number_turn column order place k x e q =
-    let z : 0 + length (work k order) + 1 ≡ k + 1 = omega (arith, length_work order k) in
-    rw (work_more order k, numbered_snoc column 0 (work k order) (at order k), z, e, q)
+pub numbered_append : (column : List ℕ) (k : ℕ) (l m : List ℕ) → numbered column k (l ++ m) ≡ numbered (numbered column k l) (k + length l) m
+unfolding numbered
+numbered_append column k [] m = rw add-zero
+numbered_append column k (y ∷ l) m = numbered_append (set column y (suc k)) (suc k) l m ∙ ap (λ n. numbered (numbered (set column y (suc k)) (suc k) l) n m) (omega arith)
 
--- the two ways of a turn that sifts
+-- one more place: its entry passes, or not
 module _ (p : ℕ → Bool) (order : List ℕ) (k : ℕ) where
   pub more_hit : p (at order k) ≡ true → only p (work (k + 1) order) ≡ only p (work k order) ++ (at order k ∷ [])
   more_hit e = rw (work_more order k, only_append p (work k order)) (ap (λ m. only p (work k order) ++ m) (cons_hit p _ [] e ∙ ap (λ r. at order k ∷ r) (only_nil p)))
 
   pub more_miss : p (at order k) ≡ false → only p (work (k + 1) order) ≡ only p (work k order)
   more_miss e = rw (work_more order k, only_append p (work k order)) (ap (λ m. only p (work k order) ++ m) (cons_miss p _ [] e ∙ only_nil p) ∙ append-nil _)
-
-  pub sift_hit : (start n x : ℕ) (out out₀ : List ℕ) → n ≡ start + length (only p (work k order)) → out ≡ laid out₀ start (only p (work k order)) → x ≡ at order k → p x ≡ true
-      → (n + 1 ≡ start + length (only p (work (k + 1) order))) × (set out n (at order k) ≡ laid out₀ start (only p (work (k + 1) order)))
-  sift_hit start n x out out₀ h e q t =
-      rw (more_hit (rw q at t)) (rw length-append (omega arith), rw (laid_snoc out₀ start (only p (work k order)) (at order k), e, h))
-
-  pub sift_miss : (start n x : ℕ) (out out₀ : List ℕ) → n ≡ start + length (only p (work k order)) → out ≡ laid out₀ start (only p (work k order)) → x ≡ at order k → p x ≡ false
-      → (n ≡ start + length (only p (work (k + 1) order))) × (out ≡ laid out₀ start (only p (work (k + 1) order)))
-  sift_miss start n x out out₀ h e q t = rw (more_miss (rw q at t)) (h, e)
 
   sift_long : (d : ℕ) → length (only p (work k order)) ≤ length (only p (work (k + d) order))
   sift_long zero = rw add-zero (omega arith)
@@ -236,9 +211,3 @@ place_of l = numbered (replicate rows_most 0) 0 l
 module _ (l : List ℕ) (h : length l ≤ places_most) where
   pub order_work : work (length l) (order_of l) ≡ l
   order_work = work_laid _ l (rw length-replicate h)
-
-  pub order_at : (P : ℕ → Type 0) → Each P l → (k : ℕ) → k < length l → P (at (order_of l) k)
-  order_at P e k b = rw (← work_at (order_of l) (length l) k b, order_work) (e k b)
-
-pub ready : (rows : ℕ) (l : List ℕ) → Fits rows l → (n : ℕ) (out : List ℕ) → n ≡ length l → out ≡ order_of l → (n ≤ places_most) × ((k : ℕ) → k < n → at out k < rows)
-ready rows l f n out a b = (omega (arith, f.short), λ k h. rw b (order_at l f.short (λ x. x < rows) f.known k (omega arith)))

@@ -1,4 +1,4 @@
 pub mod Column
 pub mod Tree
 pub mod Work
-pub mod Mask
+pub mod Listing

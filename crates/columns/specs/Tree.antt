@@ -1,6 +1,6 @@
 -- The tree of transactions in its columns, indexed by the transaction's own number; 0 is the root.
 -- Source: document 01, "Calls, answers and their order" and "Lists of work".
-use Rattle.std.specs.Prelude.{ℕ, Bool, cond, ◌&&◌, List, replicate, eqb}
+use Rattle.std.specs.Prelude.{ℕ, Bool, false, ◌&&◌, List, replicate, eqb}
 use Rattle.below.specs.Below.{set_below}
 use Rattle.below.specs.Climb.{up_any}
 use Rattle.columns.specs.Column.{at, rows_most}
@@ -27,6 +27,6 @@ aborted_up parent state x = up_any (at parent) (λ y. eqb (at state y) has_abort
 abbrev pub open_child : List ℕ → List ℕ → ℕ → ℕ → Bool
 open_child parent state t k = eqb (at parent k) t && eqb (at state k) is_open
 
--- a column with 1 at each row that passes
-abbrev pub marks_of : ℕ → (ℕ → Bool) → List ℕ
-marks_of rows p = set_below rows (λ k. cond (p k) 1 0) (replicate rows_most 0)
+-- a mark for each row that passes
+abbrev pub marks_of : ℕ → (ℕ → Bool) → List Bool
+marks_of rows p = set_below rows p (replicate rows_most false)

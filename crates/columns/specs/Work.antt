@@ -3,7 +3,7 @@
 use Rattle.std.specs.Prelude.{ℕ, zero, suc, ◌<◌, ◌≤◌, Bool, cond, ◌&&◌, not, ◌≡◌, List, [], ◌∷◌, ◌++◌, eqb, length, get_or, set, replicate}
 use Rattle.below.specs.Below.{set_below}
 use Rattle.columns.specs.Column.{at, rows_most, places_most}
-use Rattle.columns.specs.declared.order.Work.{Work}
+use Rattle.columns.specs.declared.lists.Lists.{Lists}
 
 -- the listed work: the entries at the first n places
 unfoldable pub work : ℕ → List ℕ → List ℕ
@@ -40,7 +40,7 @@ numbered column k [] = column
 numbered column k (x ∷ l) = numbered (set column x (suc k)) (suc k) l
 
 -- the columns in which the listed work is l, with these holders
-abbrev pub work_of : List ℕ → List ℕ → Work
+abbrev pub work_of : List ℕ → List ℕ → Lists
 work_of l holder = record {
   listed = length l;
   order = laid (replicate places_most 0) 0 l;
@@ -53,11 +53,11 @@ abbrev pub held_by : ℕ → (ℕ → Bool) → ℕ → List ℕ → List ℕ
 held_by rows hit h holder = set_below rows (λ x. cond (hit x) h (at holder x)) holder
 
 -- the accesses that are hit leave their lists
-abbrev pub dropped_of : (ℕ → Bool) → ℕ → ℕ → List ℕ → List ℕ → Work
+abbrev pub dropped_of : (ℕ → Bool) → ℕ → ℕ → List ℕ → List ℕ → Lists
 dropped_of hit rows listed order holder = work_of (only (λ x. not (hit x)) (work listed order)) (held_by rows hit 0 holder)
 
 -- the accesses that are hit go, in their order, to the end of the list of h
-abbrev pub moved_of : (ℕ → Bool) → ℕ → ℕ → ℕ → List ℕ → List ℕ → Work
+abbrev pub moved_of : (ℕ → Bool) → ℕ → ℕ → ℕ → List ℕ → List ℕ → Lists
 moved_of hit h rows listed order holder =
     work_of (only (λ x. not (hit x)) (work listed order) ++ only hit (work listed order)) (held_by rows hit h holder)
 

@@ -1,6 +1,7 @@
-// Leaf functions over the columns of a store, each lent by itself.
+// The columns of a store, in four structs: its objects, its tree of transactions, its accesses, and its lists of work.
 #![tactic(auto)]
 
-pub mod order;
+pub mod accesses;
+pub mod lists;
+pub mod objects;
 pub mod tree;
-pub mod wide;

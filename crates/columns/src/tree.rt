@@ -1,108 +1,114 @@
-// The tree of transactions: climbing it, and marking a part of it.
-ghost use Rattle.std.specs.Prelude.{◌≡◌, ◌+◌, ◌<◌, ◌≤◌};
-ghost use Rattle.below.specs.Below.{first_below};
+// The tree of transactions, indexed by the transaction's number: climbing it, and marking a part of it.
+ghost use Rattle.std.specs.Prelude.{◌≡◌, ◌+◌, ◌<◌, ◌≤◌, eqb};
+ghost use Rattle.below.specs.Below.{found_below};
 ghost use Rattle.below.specs.Climb.{Lower};
 ghost use Rattle.columns.specs.Column.{at, rows_most};
 ghost use Rattle.columns.specs.Tree.{at_or_above, aborted_up, open_child, marks_of};
 
-use crate::wide::wide16;
-
 // A row for the root and for each of 1,024 transactions.
 pub const ROWS: usize = 1025;
 
+// What a transaction's state is. A store is taken whatever bytes it holds, so these are no enum.
 pub const OPEN: u8 = 0;
 
 pub const COMMITTED: u8 = 1;
 
 pub const ABORTED: u8 = 2;
 
-// The entry at k.
-pub fn at16(column: &[u16; ROWS], k: usize) -> usize
-    requires { k < rows_most }
-    ensures { result ≡ at column.now k }
-{
-    wide16(column[k])
+// The transactions in use are the first `count` behind the root, 0.
+#[derive(Clone, Copy)]
+pub struct Tree {
+    pub count: usize,
+    pub parent: [u16; ROWS],
+    pub state: [u8; ROWS],
 }
 
-// Whether some transaction at or above x has aborted.
-pub fn aborted_above<'a>(parent: &'a [u16; ROWS], state: &'a [u8; ROWS], x: usize) -> bool
-    requires { (x < rows_most) × Lower (x + 1) (at parent.now) }
-    ensures { result ≡ aborted_up parent.now state.now x }
-{
-    let mut y = x;
-    while state[y] != ABORTED {
-        if y == 0 {
-            return false;
+impl Tree {
+    // The rows in use.
+    pub fn rows(&self) -> usize
+        requires { self.now.count < rows_most }
+        ensures { result ≡ self.now.count + 1 }
+    {
+        self.count + 1
+    }
+
+    pub fn parent_of(&self, x: usize) -> usize
+        requires { x < rows_most }
+        ensures { result ≡ at self.now.parent x }
+    {
+        usize::from(self.parent[x])
+    }
+
+    // Whether some transaction at or above x has aborted.
+    pub fn has_aborted_above(&self, x: usize) -> bool
+        requires { (x < rows_most) × Lower (x + 1) (at self.now.parent) }
+        ensures { result ≡ aborted_up self.now.parent self.now.state x }
+    {
+        let mut y = x;
+        // The way up has no end that is known beforehand.
+        while self.state[y] != ABORTED {
+            if y == 0 {
+                return false;
+            }
+            y = self.parent_of(y);
         }
-        y = at16(parent, y);
+        true
     }
-    true
+
+    // A mark for t and each above it.
+    pub fn marks_above(&self, t: usize) -> [bool; ROWS]
+        requires { (t < rows_most) × Lower (t + 1) (at self.now.parent) }
+        ensures { result ≡ marks_of rows_most (λ h. at_or_above self.now.parent t h) }
+    {
+        let mut marks = [false; ROWS];
+        let mut y = t;
+        while y != 0 {
+            marks[y] = true;
+            y = self.parent_of(y);
+        }
+        // The root is above each.
+        marks[0] = true;
+        marks
+    }
+
+    // Whether k is a child of t that is open.
+    fn is_open_child(&self, t: usize, k: usize) -> bool
+        requires { k < rows_most }
+        ensures { result ≡ open_child self.now.parent self.now.state t k }
+    {
+        self.parent_of(k) == t && self.state[k] == OPEN
+    }
+
+    // The lowest open child of t in the first `rows`.
+    pub fn first_open_child(&self, rows: usize, t: usize) -> Option<usize>
+        requires { rows ≤ rows_most }
+        ensures { result ≡ found_below rows (open_child self.now.parent self.now.state t) }
+    {
+        (0..rows).find(|&k| self.is_open_child(t, k))
+    }
+
+    // A mark for t and each beneath it. A parent is lower than its child, so its mark is there first.
+    pub(crate) fn marks_beneath(&self, t: usize) -> [bool; ROWS]
+        requires { (self.now.count < rows_most) × (0 < t) × Lower (self.now.count + 1) (at self.now.parent) }
+        ensures { result ≡ marks_of (self.now.count + 1) (λ k. at_or_above self.now.parent k t) }
+    {
+        let mut marks = [false; ROWS];
+        for k in 1..self.rows() {
+            let above = self.parent_of(k);
+            marks[k] = k == t || marks[above];
+        }
+        marks
+    }
 }
 
-// 1 for t and each above it.
-pub fn marks_above(parent: &[u16; ROWS], t: usize) -> [u8; ROWS]
-    requires { (t < rows_most) × Lower (t + 1) (at parent.now) }
-    ensures { result ≡ marks_of rows_most (λ h. at_or_above parent.now t h) }
-{
-    let mut marks = [0u8; ROWS];
-    let mut y = t;
-    while y != 0 {
-        marks[y] = 1;
-        y = at16(parent, y);
-    }
-    // The root is above each.
-    marks[0] = 1;
-    marks
-}
-
-// Whether k is a child of t that is open.
-fn is_open_child(parent: &[u16; ROWS], state: &[u8; ROWS], t: usize, k: usize) -> bool
-    requires { k < rows_most }
-    ensures { result ≡ open_child parent.now state.now t k }
-{
-    if at16(parent, k) == t {
-        state[k] == OPEN
-    } else {
-        false
-    }
-}
-
-// The lowest open child of t, or `rows`.
-pub fn first_open_child<'a>(
-    parent: &'a [u16; ROWS],
-    state: &'a [u8; ROWS],
-    rows: usize,
-    t: usize,
-) -> usize
+// A mark for t alone.
+pub(crate) fn sole_mark(rows: usize, t: usize) -> [bool; ROWS]
     requires { rows ≤ rows_most }
-    ensures { result ≡ first_below rows (open_child parent.now state.now t) }
+    ensures { result ≡ marks_of rows (λ k. eqb k t) }
 {
-    let mut i = 0;
-    while i < rows {
-        if is_open_child(parent, state, t, i) {
-            return i;
-        }
-        i += 1;
-    }
-    rows
-}
-
-// 1 for t and each beneath it. A parent is lower than its child, so its mark is there first.
-pub(crate) fn marks_beneath(parent: &[u16; ROWS], rows: usize, t: usize) -> [u8; ROWS]
-    requires { (rows ≤ rows_most) × (0 < rows) × (0 < t) × Lower rows (at parent.now) }
-    ensures { result ≡ marks_of rows (λ k. at_or_above parent.now k t) }
-{
-    let mut marks = [0u8; ROWS];
-    let mut i = 1;
-    while i < rows {
-        let k = i;
-        i += 1;
-        if k == t {
-            marks[k] = 1;
-        } else {
-            let above = at16(parent, k);
-            marks[k] = marks[above];
-        }
+    let mut marks = [false; ROWS];
+    for k in 0..rows {
+        marks[k] = k == t;
     }
     marks
 }

@@ -2,29 +2,31 @@
 #![tactic(auto)]
 
 ghost use Rattle.std.specs.Prelude.{◌≡◌};
-ghost use Rattle.kinds.specs.Counter.{decode_of, step_of, Room, shape_of, class_of};
+ghost use Rattle.kinds.specs.Range.{either_side};
+ghost use Rattle.kinds.specs.Counter.{adjustment_most, decode_of, step_of, Room, shape_of, class_of};
 
-use kinds::range::{Ranged, SignedRanged, within, within_signed};
-use kinds::{Class, Counter, CounterOperation, Decoded, Operation, Outcome, Shape, State, Stepped};
+use kinds::range::within_signed;
+use kinds::{Class, Counter, CounterOperation, Operation, Outcome, Shape, State, Stepped};
 
-pub fn decode(operation: u32, argument: i64) -> Decoded
+pub fn decode(operation: u32, argument: i64) -> Option<Operation>
     ensures { result ≡ decode_of operation argument }
 {
-    match operation {
-        Counter::ADJUST => match within_signed(
-            argument,
-            Counter::ADJUSTMENT_LEAST,
-            Counter::ADJUSTMENT_MOST,
-        ) {
-            SignedRanged::In(n) => Decoded::Fit(Operation::Counter(CounterOperation::Adjust(n))),
-            SignedRanged::Out => Decoded::Unfit,
-        },
-        Counter::COUNT => match within(argument, Counter::NO_ARGUMENT, Counter::NO_ARGUMENT) {
-            Ranged::In(_) => Decoded::Fit(Operation::Counter(CounterOperation::Count)),
-            Ranged::Out => Decoded::Unfit,
-        },
-        _ => Decoded::Unfit,
-    }
+    let decoded = match operation {
+        Counter::ADJUST => CounterOperation::Adjust(adjustment(argument)?),
+        Counter::COUNT if argument == Counter::NO_ARGUMENT => CounterOperation::Count,
+        _ => return None,
+    };
+    Some(Operation::Counter(decoded))
+}
+
+fn adjustment(argument: i64) -> Option<i32>
+    ensures { result ≡ either_side argument adjustment_most Some None }
+{
+    within_signed(
+        argument,
+        Counter::ADJUSTMENT_LEAST,
+        Counter::ADJUSTMENT_MOST,
+    )
 }
 
 pub fn step(counter: Counter, operation: CounterOperation) -> Stepped
@@ -32,15 +34,13 @@ pub fn step(counter: Counter, operation: CounterOperation) -> Stepped
     ensures { result ≡ step_of counter operation }
 {
     let count = counter.count;
-    match operation {
-        CounterOperation::Adjust(n) => Stepped {
-            state: State::Counter(Counter { count: count + n }),
-            outcome: Outcome::Ok,
-        },
-        CounterOperation::Count => Stepped {
-            state: State::Counter(counter),
-            outcome: Outcome::Value(count as i64),
-        },
+    let (count, outcome) = match operation {
+        CounterOperation::Adjust(n) => (count + n, Outcome::Ok),
+        CounterOperation::Count => (count, Outcome::Value(i64::from(count))),
+    };
+    Stepped {
+        state: State::Counter(Counter { count }),
+        outcome,
     }
 }
 
@@ -53,19 +53,13 @@ pub fn shape_of(operation: CounterOperation) -> Shape
     }
 }
 
-pub fn class_of(operation: CounterOperation, outcome: Outcome) -> Class
+pub fn class_of(operation: CounterOperation, outcome: Outcome) -> Option<Class>
     ensures { result ≡ class_of operation outcome }
 {
-    match operation {
-        CounterOperation::Adjust(n) => match outcome {
-            Outcome::Ok => Class::Row(Counter::ADJUST_ROW, n as i64),
-            Outcome::Fail => Class::None,
-            Outcome::Value(_) => Class::None,
-        },
-        CounterOperation::Count => match outcome {
-            Outcome::Value(_) => Class::Row(Counter::COUNT_ROW, Counter::COUNT_KEY),
-            Outcome::Ok => Class::None,
-            Outcome::Fail => Class::None,
-        },
-    }
+    let (row, key) = match (operation, outcome) {
+        (CounterOperation::Adjust(n), Outcome::Ok) => (Counter::ADJUST_ROW, i64::from(n)),
+        (CounterOperation::Count, Outcome::Value(_)) => (Counter::COUNT_ROW, Counter::COUNT_KEY),
+        _ => return None,
+    };
+    Some(Class { row, key })
 }

@@ -68,13 +68,13 @@ module _ (r : Run) where
   }
 
   steps : (c : Call) → let reply = reply_to (store_in r) c in
-      Moves (kind_in r) (start_in r) (Commute (object_of (kind_in r))) (at (store_in r).parent) (events (kind_in r) r.object (history_in r) c reply.answer)
+      Moves (kind_in r) (start_in r) (Commute (object_of (kind_in r))) (at (store_in r).tree.parent) (events (kind_in r) r.object (history_in r) c reply.answer)
       (locking_in r (store_in r)) (locking_in r reply.store)
   steps c =
       let s = store_in r in
       let h = history_in r in
       let z = (reply_to s c).store in
-      commuting (kind_in r) (start_in r) (at s.parent) (events (kind_in r) r.object h c (reply_to s c).answer) (locking_in r s) (locking_in r z)
+      commuting (kind_in r) (start_in r) (at s.tree.parent) (events (kind_in r) r.object h c (reply_to s c).answer) (locking_in r s) (locking_in r z)
       (takes (kind_in r) r.object (start_in r) h s (reached r) c)
 
   lists : (u : ℕ) → map (λ e. e.who) ((locking_in r (store_in r)).intentions u) ≡ list_of (store_in r) r.object u
@@ -101,7 +101,7 @@ module _ (r : Run) (t : ℕ) where
   abbrev object : Serial
   object = object_of (kind_in r)
 
-  abbrev tree : Tree (history_in r) (at (store_in r).parent)
+  abbrev tree : Tree (history_in r) (at (store_in r).tree.parent)
   tree = (rows r).tree
 
   serializes : ¬ Orphan (history_in r) t → Serializes object (start_in r) (history_in r) t
@@ -113,7 +113,7 @@ module _ (r : Run) (t : ℕ) where
     views : ¬ Orphan (history_in r) t → Work (history_in r) t (viewed r t)
     views alive =
         total_is_work object (start_in r) (Pass (kind_in r)) (pass_turned (kind_in r)) (history_in r) (locking_in r (store_in r))
-        (reached r).accepted (reached r).runs (at (store_in r).parent) tree t known alive
+        (reached r).accepted (reached r).runs (at (store_in r).tree.parent) tree t known alive
 
     accesses : map (λ e. e.who) (viewed r t) ≡ view_of (store_in r) r.object t
     accesses = view_are (kind_in r) r.object (store_in r) (reached r).form (reached r).kinds t (((rows r).numbers t).0 known)
@@ -121,7 +121,7 @@ module _ (r : Run) (t : ℕ) where
     replayed : ¬ Orphan (history_in r) t → Legal object (start_in r) (ops (viewed r t))
     replayed alive =
         total_legal object (start_in r) (Pass (kind_in r)) (pass_turned (kind_in r)) (pass_swaps (kind_in r)) (history_in r) (locking_in r (store_in r))
-        (reached r).accepted (reached r).runs (at (store_in r).parent) tree t known alive
+        (reached r).accepted (reached r).runs (at (store_in r).tree.parent) tree t known alive
 
 pub demand_3 : Demand3
 demand_3 = record { serializes = serializes; views = views; accesses = accesses; replayed = replayed; handed_out = handed_out }

@@ -108,7 +108,7 @@ calls = plain_under root ∷ under 1 (withdraw 6) ∷ respond 2 ∷ abort 1 ∷ 
 abbrev pub opened : Store
 opened = (open_of (65 ∷ []) (pos 10 ∷ [])).store
 
-pub one_object : opened.objects ≡ 1
+pub one_object : opened.objects.count ≡ 1
 unfolding open_of kind_of all_below
 one_object = refl
 

@@ -65,7 +65,7 @@ pub not_never_changing : ¬ ((s : Store) (c : Call) (o u : ℕ) → list_of (rep
 unfolding answers_to
 not_never_changing idle =
     let s : Store = (create_of start root (Access (withdraw 10))).store in
-    let o : ℕ = at s.object 1 in
+    let o : ℕ = at s.accesses.object 1 in
     let sized = create_sized start (open_sized _ _) root (Access (withdraw 10)) in
     let own : list_of (respond_of s 1).store o 1 ≡ 1 ∷ [] = (respond_does s 1 sized (accepted 2 1 refl)).own in
     let empty : list_of s o 1 ≡ [] = idle start (under root (withdraw 10)) o 1 ∙ open_lists _ _ o 1 in
@@ -84,7 +84,7 @@ not_repeating idle =
 
 -- one that reports an invented holder or access with 13: what it names is on the list of the holder that it names
 pub not_inventing : (s : Store) (t : ℕ) → let answer = (respond_of s t).answer in
-    answer.code ≡ 13 → (x : ℕ) × (answer.b ≡ pos x) × Found x (list_of s (at s.object t) answer.a)
+    answer.code ≡ 13 → (x : ℕ) × (answer.b ≡ pos x) × Found x (list_of s (at s.accesses.object t) answer.a)
 not_inventing s t e =
     let w : Waits s t (respond_of s t).answer = respond_waits s t e in
     (w.blocked.access, ap (λ r. r.b) w.answered, rw w.answered w.blocked.conflicting.listed)

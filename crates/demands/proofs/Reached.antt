@@ -44,9 +44,9 @@ use Rattle.demands.proofs.TakenRespond.{answer_right, request}
 pub record Reached (kind : Kind) (o : ℕ) (opening : State) (h : History (object_of kind)) (s : Store) : Type 0 where
   pub sized : Sized s
   pub form : in_form s ≡ true
-  pub has : o < s.objects
+  pub has : o < s.objects.count
   pub kinds : kind_at s o ≡ kind
-  pub opens : start_of (opened_of (kind_at s o) (at_z s.opening o)) ≡ opening
+  pub opens : start_of (opened_of (kind_at s o) (at_z s.objects.opening o)) ≡ opening
   pub agrees : Agrees h (seen_by kind o s)
   pub accepted : Accepted h
   pub runs : Runs (object_of kind) opening (Pass kind) h (locking_of kind o s)
@@ -58,21 +58,21 @@ module _ (kind : Kind) (o : ℕ) (opening : State) (h : History (object_of kind)
   abbrev locking : Locking (object_of kind)
   locking = locking_of kind o s
 
-  pub reached_tree : Tree h (at s.parent)
+  pub reached_tree : Tree h (at s.tree.parent)
   reached_tree = tree h seen r.agrees (parents_lower s r.sized r.form)
 
   abbrev Step : Call → List (Event (object_of kind)) → Type 0
-  Step c happened = Moves kind opening (Pass kind) (at s.parent) happened locking (locking_of kind o (reply_to s c).store)
+  Step c happened = Moves kind opening (Pass kind) (at s.tree.parent) happened locking (locking_of kind o (reply_to s c).store)
 
   -- the view of an asking access, and then its answer
-  asked_legal : (t : ℕ) (done : (respond_of s t).answer.code ≡ 0) (on : at s.object t ≡ o)
+  asked_legal : (t : ℕ) (done : (respond_of s t).answer.code ≡ 0) (on : at s.accesses.object t ≡ o)
       → let said = response kind o t s r.sized r.form r.kinds on done in
-      Legal (object_of kind) opening (ops (total (at s.parent) locking t) ++ (op_of kind said.answered ∷ []))
+      Legal (object_of kind) opening (ops (total (at s.tree.parent) locking t) ++ (op_of kind said.answered ∷ []))
   asked_legal t done on =
       let said : Response kind o t s = response kind o t s r.sized r.form r.kinds on done in
       let tests = respond_tests kind o s t r.form r.sized r.kinds on done in
       let alive = alive_row h seen r.accepted r.agrees (parents_lower s r.sized r.form) t tests.finish.alive in
-      behaves (object_of kind) opening (Pass kind) (pass_turned kind) (pass_swaps kind) h locking r.accepted r.runs (at s.parent) reached_tree t
+      behaves (object_of kind) opening (Pass kind) (pass_turned kind) (pass_swaps kind) h locking r.accepted r.runs (at s.tree.parent) reached_tree t
       (within_known h seen r.agrees t said.known) alive (op_of kind said.answered)
       (answer_right kind o s r.form r.kinds t said opening r.opens)
 
@@ -97,7 +97,7 @@ module _ (kind : Kind) (o : ℕ) (opening : State) (h : History (object_of kind)
         × Runs (object_of kind) opening (Pass kind) (happened ++ h) (locking_of kind o z)
 
     goes_on : (happened : List (Event (object_of kind))) → Moved happened seen (seen_by kind o z)
-        → Moves kind opening (Pass kind) (at s.parent) happened locking (locking_of kind o z) → On happened
+        → Moves kind opening (Pass kind) (at s.tree.parent) happened locking (locking_of kind o z) → On happened
     goes_on happened (stays e idles) step =
         rw e (
           agrees_idle h seen (seen_by kind o z) r.agrees idles,
@@ -108,7 +108,7 @@ module _ (kind : Kind) (o : ℕ) (opening : State) (h : History (object_of kind)
         rw e (
           agrees_next h c seen (seen_by kind o z) r.agrees writes,
           (r.accepted, allowed h seen r.accepted r.agrees (parents_lower s r.sized r.form) c (seen_by kind o z) writes tests),
-          next c (at s.parent) reached_tree r.runs (rw e at step),
+          next c (at s.tree.parent) reached_tree r.runs (rw e at step),
         )
 
   reached_next : (c : Call) → Reached kind o opening (events kind o h c (reply_to s c).answer ++ h) (reply_to s c).store
@@ -138,10 +138,10 @@ module _ (kind : Kind) (o : ℕ) (opening : State) where
 
 module _ (r : Run) where
   -- the object is the one that was asked for
-  opened_object : (kind_at (opened_in r) r.object ≡ kind_in r) × (at_z (opened_in r).opening r.object ≡ at_z r.openings r.object)
+  opened_object : (kind_at (opened_in r) r.object ≡ kind_in r) × (at_z (opened_in r).objects.opening r.object ≡ at_z r.openings r.object)
   opened_object =
       opened_or_empty
-      (λ z. r.object < z.objects → (kind_at z r.object ≡ kind_in r) × (at_z z.opening r.object ≡ at_z r.openings r.object))
+      (λ z. r.object < z.objects.count → (kind_at z r.object ≡ kind_in r) × (at_z z.objects.opening r.object ≡ at_z r.openings r.object))
       r.kinds r.openings
       (λ e h.
       let most = few r.kinds r.openings e in

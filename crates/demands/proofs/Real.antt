@@ -5,7 +5,7 @@ use Rattle.store.specs.Open.{open_of}
 use Rattle.store.proofs as of
 use Rattle.store.specs.Calls.{create, respond, commit, abort, reply_to}
 
-pub opens : Gives 1 of.Store.«open».Kinds.ps of.Store.«open».Kinds.r of.Store.«open».Reads.Learnt (λ κs a. open_of a.0.now a.1.0.now)
+pub opens : Gives 2 of.Store.«open».Kinds.ps of.Store.«open».Kinds.r of.Store.«open».Reads.Learnt (λ κs a. open_of a.0.now a.1.0.now)
 opens κs a x e learnt = learnt
 
 pub creates : Gives 0 of.Store.create.Kinds.ps of.Store.create.Kinds.r of.Store.create.Reads.Learnt (λ κs a. reply_to a.0 (create a.1.0 a.1.1.0))
@@ -20,7 +20,7 @@ commits κs a x e learnt = learnt
 pub aborts : Gives 0 of.Store.abort.Kinds.ps of.Store.abort.Kinds.r of.Store.abort.Reads.Learnt (λ κs a. reply_to a.0 (abort a.1.0))
 aborts κs a x e learnt = learnt
 
-pub open_asks_nothing : AsksNothing 1 of.Store.«open».Kinds.ps of.Store.«open».Reads.Asked
+pub open_asks_nothing : AsksNothing 2 of.Store.«open».Kinds.ps of.Store.«open».Reads.Asked
 open_asks_nothing κs a = tt
 
 pub create_asks_nothing : AsksNothing 0 of.Store.create.Kinds.ps of.Store.create.Reads.Asked

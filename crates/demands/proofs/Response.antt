@@ -1,4 +1,5 @@
 -- What is known of an accepted response at object o, of this kind: what it asked, what it was answered, and what the rows have on record.
+use Rattle.std.specs.Prelude.{Option, Some, None}
 use Prim.Native.Nat.{ℕ, ◌+◌, ◌-◌, ◌<◌, ◌≤◌}
 use mathlib.Core.Path.{◌≡◌, refl, ap, ◌∙◌, subst}
 use mathlib.Core.Bool.{true}
@@ -8,15 +9,11 @@ use borrow.Author.Tests.{ne_eqb}
 use Rattle.kinds.specs.declared.Kind.{Kind}
 use Rattle.kinds.specs.declared.outcome.Outcome.{Outcome}
 use Rattle.kinds.specs.declared.outcome.Outcome.TheVariants.{Ok, Fail, Value}
-use Rattle.kinds.specs.declared.outcome.Recalled.TheVariants.{Given}
 use Rattle.kinds.specs.declared.Answered.{Answered}
-use Rattle.kinds.specs.declared.Decoded.{Decoded}
-use Rattle.kinds.specs.declared.Decoded.TheVariants.{Fit}
 use Rattle.kinds.specs.Kinds.{recall_of, step_of}
 use Rattle.kinds.specs.Outcome.{numbers_of}
 use Rattle.kinds.proofs.Claims.{answers_recalled}
 use Rattle.columns.specs.Column.{at, at_z, rows_most}
-use Rattle.replay.specs.declared.access.Recorded.TheVariants.{As, Nothing}
 use Rattle.replay.specs.Access.{asked_of, recorded_of}
 use Rattle.store.specs.declared.Store.{Store}
 use Rattle.store.specs.Form.{in_form}
@@ -32,20 +29,21 @@ use Rattle.store.proofs.Effects.{accepted_asks, respond_does}
 use Rattle.store.proofs.Waits.{asking_as, respond_granted}
 use Rattle.demands.specs.History.{outcome_for}
 use Rattle.demands.proofs.ObjectRows.{record_on, no_record, record_at}
+use Rattle.kinds.specs.declared.Operation.{Operation}
 
 pub record Response (kind : Kind) (o t : ℕ) (s : Store) : Type 0 where
   pub some : 0 < t
-  pub known : t ≤ s.count
-  pub on : at s.object t ≡ o
+  pub known : t ≤ s.tree.count
+  pub on : at s.accesses.object t ≡ o
   pub answered : Answered
-  pub asked : asked_of kind s.operation s.argument t ≡ Fit answered.operation
+  pub asked : asked_of kind s.accesses.operation s.accesses.argument t ≡ Some answered.operation
   pub result : answered.outcome ≡ (step_of (state_for s o t) answered.operation).outcome
   pub asking : Asking s t answered
   pub free : (h x : ℕ) → Conflicting s t answered h x → ⊥
   pub handed : outcome_for (respond_of s t).answer.a (respond_of s t).answer.b ≡ answered.outcome
-  pub unanswered : at s.outcome t ≡ 0
-  pub before : record_at kind s t ≡ Nothing
-  pub own : record_at kind (respond_of s t).store t ≡ As answered
+  pub unanswered : at s.accesses.outcome t ≡ 0
+  pub before : record_at kind s t ≡ None
+  pub own : record_at kind (respond_of s t).store t ≡ Some answered
   pub others : (x : ℕ) → ¬ (x ≡ t) → record_at kind (respond_of s t).store x ≡ record_at kind s x
 
 -- the numbers of an outcome stand for it
@@ -62,8 +60,8 @@ handed_out s t e =
     rw g.answered (ap numbers_of (outcome_for_lem g.asking.outcome))
 
 -- an answer of a shape that its operation allows is on record as it was given
-recorded_as : (d : Decoded) (a : ℕ) (b : ℤ) (p : Answered) → d ≡ Fit p.operation → recall_of p.operation a b ≡ Given p.outcome
-    → recorded_of d (a + 1) b ≡ As p
+recorded_as : (d : Option Operation) (a : ℕ) (b : ℤ) (p : Answered) → d ≡ Some p.operation → recall_of p.operation a b ≡ Some p.outcome
+    → recorded_of d (a + 1) b ≡ Some p
 recorded_as d a b p fit shape =
     let same : a + 1 - 1 ≡ a = omega arith in
     rw (fit, ne_eqb (a + 1) 0 (λ e. omega arith), same, shape)
@@ -76,7 +74,7 @@ module _ (t : ℕ) (s : Store) (sized : Sized s) (fine : in_form s ≡ true) (do
   asks = accepted_asks s t ((respond_decided s t).passed.0 done)
 
   abbrev o : ℕ
-  o = at s.object t
+  o = at s.accesses.object t
 
   abbrev kind : Kind
   kind = kind_at s o
@@ -88,13 +86,13 @@ module _ (t : ℕ) (s : Store) (sized : Sized s) (fine : in_form s ≡ true) (do
   p = granted.asking
 
   -- the result has a shape that the operation allows
-  shaped : recall_of p.operation (numbers_of p.outcome).a (numbers_of p.outcome).b ≡ Given p.outcome
+  shaped : recall_of p.operation (numbers_of p.outcome).a (numbers_of p.outcome).b ≡ Some p.outcome
   shaped =
       let row : t < rows_most = omega (arith, asks.known, form.tree.few) in
       let state = state_for s o t in
       let has = state_bounded s fine o t (form.accesses.known t row ((asks.some, asks.known), asks.asks)) asks.known in
       rw granted.asked.result
-      (answers_recalled kind (at s.operation t) (at_z s.argument t) p.operation state granted.asked.asked has.0 has.1)
+      (answers_recalled kind (at s.accesses.operation t) (at_z s.accesses.argument t) p.operation state granted.asked.asked has.0 has.1)
 
   does : Responds s t (numbers_of p.outcome) (respond_of s t).store
   does = subst (λ r. Responds s t (result_of r) (respond_of s t).store) (asking_as s t p granted.asked) (respond_does s t sized done)
@@ -116,7 +114,7 @@ module _ (t : ℕ) (s : Store) (sized : Sized s) (fine : in_form s ≡ true) (do
     others = λ x n. ap (record_on kind) (does.rows x n);
   }
 
-pub response : (kind : Kind) (o t : ℕ) (s : Store) → Sized s → in_form s ≡ true → kind_at s o ≡ kind → at s.object t ≡ o → (respond_of s t).answer.code ≡ 0
+pub response : (kind : Kind) (o t : ℕ) (s : Store) → Sized s → in_form s ≡ true → kind_at s o ≡ kind → at s.accesses.object t ≡ o → (respond_of s t).answer.code ≡ 0
     → Response kind o t s
 response kind o t s sized fine kinds on done =
     subst (λ (k : Kind). Response k o t s) kinds (subst (λ (y : ℕ). Response (kind_at s y) y t s) on (here t s sized fine done))

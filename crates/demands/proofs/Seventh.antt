@@ -34,7 +34,7 @@ use Rattle.demands.proofs.Cases.{quick_after, quick_after_lem}
 abbrev pub calls : List Call
 calls = under root (write 3) ∷ under root (write 9) ∷ respond 2 ∷ commit 2 ∷ respond 1 ∷ commit 1 ∷ []
 
-pub two_objects : start.objects ≡ 2
+pub two_objects : start.objects.count ≡ 2
 unfolding open_of kind_of all_below
 two_objects = refl
 
@@ -51,7 +51,7 @@ expected = wrote 2 9 ∷ wrote 1 3 ∷ []
 pub seventh_work : Work (history_in seventh) root expected
 unfolding quick_after open_of decide kind_of entry after_all work only laid numbered any_below all_below first_below set_below up_any climb climb_in
 seventh_work =
-    let computed : total (at (quick_after start calls).parent) (locking_in seventh (quick_after start calls)) root ≡ expected = refl in
+    let computed : total (at (quick_after start calls).tree.parent) (locking_in seventh (quick_after start calls)) root ≡ expected = refl in
     subst (λ l. Work (history_in seventh) root l)
-    (ap (λ s. total (at s.parent) (locking_in seventh s) root) (quick_after_lem start calls (open_sized seventh.kinds seventh.openings) (open_kept seventh.kinds seventh.openings)) ∙ computed)
+    (ap (λ s. total (at s.tree.parent) (locking_in seventh s) root) (quick_after_lem start calls (open_sized seventh.kinds seventh.openings) (open_kept seventh.kinds seventh.openings)) ∙ computed)
     (demand_3.views seventh root (inl refl) (root_alive (history_in seventh) (reached seventh).accepted))

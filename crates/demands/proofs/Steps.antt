@@ -1,4 +1,5 @@
 -- The relation between operations that the table lets pass, and the laws of `steps_of`: the steps of a list, and of a view.
+use Rattle.std.specs.Prelude.{Option, Some, None}
 use Prim.Native.Nat.{ℕ, suc, ◌+◌, ◌-◌, ◌<◌}
 use mathlib.Core.Path.{◌≡◌, refl, sym, ap, ◌∙◌}
 use mathlib.Core.Bool.{Bool, true, false, cond}
@@ -18,22 +19,17 @@ use Rattle.kinds.specs.declared.Kind.{Kind}
 use Rattle.kinds.specs.declared.State.{State}
 use Rattle.kinds.specs.declared.Operation.{Operation}
 use Rattle.kinds.specs.declared.Answered.{Answered}
-use Rattle.kinds.specs.declared.Decoded.{Decoded}
-use Rattle.kinds.specs.declared.Decoded.TheVariants.{Fit, Unfit}
-use Rattle.kinds.specs.declared.outcome.Recalled.{Recalled}
-use Rattle.kinds.specs.declared.outcome.Recalled.TheVariants.{Given, Unshaped}
 use Rattle.kinds.specs.Kinds.{step_of, recall_of, conflict_of}
 use Rattle.kinds.specs.Object.{object_of, op_of}
 use Rattle.kinds.proofs.Claims.{passes_swap, passes_commute, conflicts_symmetric}
 use Rattle.columns.specs.Column.{at}
 use Rattle.columns.specs.Work.{Found}
 use Rattle.columns.proofs.Work.{Each, each_append}
-use Rattle.replay.specs.declared.access.Recorded.{Recorded}
-use Rattle.replay.specs.declared.access.Recorded.TheVariants.{As, Nothing}
 use Rattle.replay.specs.Access.{answered_as, recorded_of}
 use Rattle.replay.specs.View.{view_in, after_all}
 use Rattle.replay.proofs.Views.{view_root, view_step}
 use Rattle.demands.specs.Locking.{recorded, steps_of, Moves}
+use Rattle.kinds.specs.declared.outcome.Outcome.{Outcome}
 
 abbrev pub answered_of : {kind : Kind} → Op (object_of kind) → Answered
 answered_of p = record { operation = p.ask; outcome = p.reply }
@@ -61,42 +57,42 @@ commuting kind opening parent (e ∷ []) L M step =
 commuting kind opening parent (e ∷ f ∷ rest) L M step = step
 
 -- the row of x has an answer on record
-abbrev pub OnRecord : (ℕ → Recorded) → ℕ → Type 0
-OnRecord record_of x = (p : Answered) × (record_of x ≡ As p)
+abbrev pub OnRecord : (ℕ → Option Answered) → ℕ → Type 0
+OnRecord record_of x = (p : Answered) × (record_of x ≡ Some p)
 
 -- and what was answered is what it asks
-abbrev pub AskedOnRecord : (ℕ → Recorded) → (ℕ → Decoded) → ℕ → Type 0
-AskedOnRecord record_of asked x = (p : Answered) × (record_of x ≡ As p) × (asked x ≡ Fit p.operation)
+abbrev pub AskedOnRecord : (ℕ → Option Answered) → (ℕ → Option Operation) → ℕ → Type 0
+AskedOnRecord record_of asked x = (p : Answered) × (record_of x ≡ Some p) × (asked x ≡ Some p.operation)
 
-recalled_asks : (o : Operation) (r : Recalled) (p : Answered) → answered_as o r ≡ As p → o ≡ p.operation
-recalled_asks o (Given outcome) p e = cc
-recalled_asks o Unshaped p e = cc
+recalled_asks : (o : Operation) (r : Option Outcome) (p : Answered) → answered_as o r ≡ Some p → o ≡ p.operation
+recalled_asks o (Some outcome) p e = cc
+recalled_asks o None p e = cc
 
 -- what has an answer on record asks what was answered
-pub recorded_asks : (d : Decoded) (outcome : ℕ) (value : ℤ) (p : Answered) → recorded_of d outcome value ≡ As p → d ≡ Fit p.operation
-recorded_asks Unfit outcome value p e = cc
-recorded_asks (Fit o) outcome value p e = ap Fit (given (eqb outcome 0) e)
+pub recorded_asks : (d : Option Operation) (outcome : ℕ) (value : ℤ) (p : Answered) → recorded_of d outcome value ≡ Some p → d ≡ Some p.operation
+recorded_asks None outcome value p e = cc
+recorded_asks (Some o) outcome value p e = ap Some (given (eqb outcome 0) e)
   where
-    given : (none : Bool) → cond none Nothing (answered_as o (recall_of o (outcome - 1) value)) ≡ As p → o ≡ p.operation
+    given : (none : Bool) → cond none None (answered_as o (recall_of o (outcome - 1) value)) ≡ Some p → o ≡ p.operation
     given true e = cc
     given false e = recalled_asks o (recall_of o (outcome - 1) value) p e
 
 module _ (kind : Kind) where
-  recorded_append : (x : ℕ) (r : Recorded) (l m : List (Step (object_of kind))) → recorded kind x r (l ++ m) ≡ recorded kind x r l ++ m
-  recorded_append x (As p) l m = refl
-  recorded_append x Nothing l m = refl
+  recorded_append : (x : ℕ) (r : Option Answered) (l m : List (Step (object_of kind))) → recorded kind x r (l ++ m) ≡ recorded kind x r l ++ m
+  recorded_append x (Some p) l m = refl
+  recorded_append x None l m = refl
 
-  recorded_cases : (x : ℕ) (r : Recorded) (l : List (Step (object_of kind))) (e : Step (object_of kind)) → e ∈ recorded kind x r l
-      → ((p : Answered) × (r ≡ As p) × (e ≡ record { who = x; did = op_of kind p })) ⊎ (e ∈ l)
-  recorded_cases x (As p) l e m = ⊎_elim (λ q. inl (p, refl, q)) (λ n. inr n) (Memᴰ.cases_cons m)
-  recorded_cases x Nothing l e m = inr m
+  recorded_cases : (x : ℕ) (r : Option Answered) (l : List (Step (object_of kind))) (e : Step (object_of kind)) → e ∈ recorded kind x r l
+      → ((p : Answered) × (r ≡ Some p) × (e ≡ record { who = x; did = op_of kind p })) ⊎ (e ∈ l)
+  recorded_cases x (Some p) l e m = ⊎_elim (λ q. inl (p, refl, q)) (λ n. inr n) (Memᴰ.cases_cons m)
+  recorded_cases x None l e m = inr m
 
   -- where the answers on record agree, so do the steps
-  pub steps_same : (f g : ℕ → Recorded) (l : List ℕ) → Each (λ x. f x ≡ g x) l → steps_of kind f l ≡ steps_of kind g l
+  pub steps_same : (f g : ℕ → Option Answered) (l : List ℕ) → Each (λ x. f x ≡ g x) l → steps_of kind f l ≡ steps_of kind g l
   steps_same f g [] h = refl
   steps_same f g (x ∷ l) h = rw (h 0 (omega arith), steps_same f g l (λ k b. h (suc k) (omega arith)))
 
-  module _ (record_of : ℕ → Recorded) where
+  module _ (record_of : ℕ → Option Answered) where
     pub steps_append : (l m : List ℕ) → steps_of kind record_of (l ++ m) ≡ steps_of kind record_of l ++ steps_of kind record_of m
     steps_append [] m = refl
     steps_append (x ∷ l) m =
@@ -104,13 +100,13 @@ module _ (kind : Kind) where
 
     -- a step is of an access on the list, and is what that access has on record
     pub steps_found : (l : List ℕ) (e : Step (object_of kind)) → e ∈ steps_of kind record_of l
-        → Found e.who l × (record_of e.who ≡ As (answered_of e.did))
+        → Found e.who l × (record_of e.who ≡ Some (answered_of e.did))
     steps_found [] e m = absurd (Memᴰ.not-nil m)
     steps_found (x ∷ l) e m =
         ⊎_elim
         (λ own. (
           record { index = 0; small = omega arith; is = sym (ap (λ d. d.who) own.2) },
-          ap (λ d. record_of d.who) own.2 ∙ own.1 ∙ ap (λ d. As (answered_of d.did)) (sym own.2),
+          ap (λ d. record_of d.who) own.2 ∙ own.1 ∙ ap (λ d. Some (answered_of d.did)) (sym own.2),
         ))
         (λ rest.
         let found = steps_found l e rest in
@@ -123,7 +119,7 @@ module _ (kind : Kind) where
     steps_who (x ∷ l) h = rw (h 0 (omega arith)).1 (ap (λ r. x ∷ r) (steps_who l (λ k b. h (suc k) (omega arith))))
 
     -- and the object comes to the same state after them
-    pub steps_run : (asked : ℕ → Decoded) (l : List ℕ) (s : State) → Each (AskedOnRecord record_of asked) l
+    pub steps_run : (asked : ℕ → Option Operation) (l : List ℕ) (s : State) → Each (AskedOnRecord record_of asked) l
         → run (object_of kind) s (ops (steps_of kind record_of l)) ≡ after_all asked l s
     unfolding after_all
     steps_run asked [] s h = refl

@@ -21,7 +21,7 @@ use Rattle.columns.specs.Column.{at, at_z, rows_most}
 use Rattle.columns.specs.Work.{work}
 use Rattle.columns.proofs.Work.{Each}
 use Rattle.columns.proofs.Once.{found_each}
-use Rattle.columns.proofs.Lists.{list_entries}
+use Rattle.columns.proofs.ListLaws.{list_entries}
 use Rattle.form.specs.Form.{count_most}
 use Rattle.form.proofs.Facts.{Used, Blank}
 use Rattle.form.proofs.KeptLists.{known, found_placed}
@@ -69,13 +69,13 @@ module _ (kind : Kind) (o : ℕ) where
     form = form_facts s fine
 
     abbrev all : List ℕ
-    all = work s.listed s.order
+    all = work s.lists.listed s.lists.order
 
     pub listed_on_record : (u : ℕ) → Each (OnRecord (record_at kind s)) (list_of s o u)
     listed_on_record u k b =
         let x = get_or (list_of s o u) k 0 in
-        let entry = list_entries all s.holder s.object o u k b in
-        let used = found_each (Used s.count) all (known _ _ _ _ _ _ _ _ _ form.tree form.lists) x entry.2 in
+        let entry = list_entries all s.lists.holder s.accesses.object o u k b in
+        let used = found_each (Used s.tree.count) all (known _ _ _ _ _ _ _ _ _ form.tree form.lists) x entry.2 in
         let row : x < rows_most = omega (arith, used.1, form.tree.few) in
         let placed = found_placed _ _ _ _ _ _ _ _ _ form.tree form.lists x entry.2 in
         subst (λ (k : Kind). OnRecord (record_at k s) x) kinds (on_record s fine o x row entry.1 (form.lists.rows x row placed).answered)
@@ -85,11 +85,11 @@ module _ (kind : Kind) (o : ℕ) where
     lists_are u = steps_who kind (record_at kind s) (list_of s o u) (listed_on_record u)
 
   module _ (s : Store) (sized : Sized s) (t : ℕ) where
-    pub commit_taken : (commit_of s t).answer.code ≡ 0 → INFORM_COMMIT (at s.parent) t (locking_of kind o s) (locking_of kind o (commit_of s t).store)
+    pub commit_taken : (commit_of s t).answer.code ≡ 0 → INFORM_COMMIT (at s.tree.parent) t (locking_of kind o s) (locking_of kind o (commit_of s t).store)
     commit_taken e =
         let z = (commit_of s t).store in
         let does = commit_does s t sized e in
-        let above = at s.parent t in
+        let above = at s.tree.parent t in
         let listed = listed_as s z (row_by_row (record_on kind) s z t does.rows (ap (record_on kind) does.row)) in
         record {
           emptied = listed t [] (does.emptied o);
@@ -100,7 +100,7 @@ module _ (kind : Kind) (o : ℕ) where
           commit_requested = row_by_row (requested_in o) s z t does.rows (ap (requested_in o) does.row);
         }
 
-    pub abort_taken : (abort_of s t).answer.code ≡ 0 → INFORM_ABORT (at s.parent) t (locking_of kind o s) (locking_of kind o (abort_of s t).store)
+    pub abort_taken : (abort_of s t).answer.code ≡ 0 → INFORM_ABORT (at s.tree.parent) t (locking_of kind o s) (locking_of kind o (abort_of s t).store)
     abort_taken e =
         let z = (abort_of s t).store in
         let does = abort_does s t sized e in
@@ -113,33 +113,33 @@ module _ (kind : Kind) (o : ℕ) where
         }
 
     -- a response at another object
-    pub respond_elsewhere : (respond_of s t).answer.code ≡ 0 → ¬ (at s.object t ≡ o) → Same (locking_of kind o s) (locking_of kind o (respond_of s t).store)
+    pub respond_elsewhere : (respond_of s t).answer.code ≡ 0 → ¬ (at s.accesses.object t ≡ o) → Same (locking_of kind o s) (locking_of kind o (respond_of s t).store)
     respond_elsewhere e away =
         let z = (respond_of s t).store in
         let does = respond_does s t sized e in
         record {
           created = row_by_row (role_in kind o) s z t does.rows (ap (role_in kind o) does.row);
-          commit_requested = row_by_row (requested_in o) s z t does.rows (ap (requested_in o) does.row ∙ rw (ne_eqb (at s.object t) o away));
+          commit_requested = row_by_row (requested_in o) s z t does.rows (ap (requested_in o) does.row ∙ rw (ne_eqb (at s.accesses.object t) o away));
           intentions = λ u.
               ap (steps_of kind (record_at kind z)) (does.lists o u (λ h q. away (sym q)))
               ∙ steps_same kind (record_at kind z) (record_at kind s) (list_of s o u) (λ k b.
               let x = get_or (list_of s o u) k 0 in
-              let on = (list_entries (work s.listed s.order) s.holder s.object o u k b).1 in
-              ap (record_on kind) (does.rows x (λ h. away (ap (at s.object) (sym h) ∙ on))));
+              let on = (list_entries (work s.lists.listed s.lists.order) s.lists.holder s.accesses.object o u k b).1 in
+              ap (record_on kind) (does.rows x (λ h. away (ap (at s.accesses.object) (sym h) ∙ on))));
         }
 
   -- a creation takes a row that has neither an operation nor an answer
   pub create_taken : (s : Store) → Sized s → (p : ℕ) (child : Child) → (create_of s p child).answer.code ≡ 0
       → (opening : State) (Commutes : Op (object_of kind) → Op (object_of kind) → Type 0)
-      → Takes (object_of kind) opening Commutes (at s.parent) (created (create_of s p child).answer.a p (role_of kind o child)) (locking_of kind o s)
+      → Takes (object_of kind) opening Commutes (at s.tree.parent) (created (create_of s p child).answer.a p (role_of kind o child)) (locking_of kind o s)
       (locking_of kind o (create_of s p child).store)
   create_taken s sized p child e opening Commutes =
       let z = (create_of s p child).store in
-      let n = s.count + 1 in
+      let n = s.tree.count + 1 in
       let passed = (create_decided s p child).passed.0 e in
       let does = create_does s p child sized e in
-      let room : s.count < count_most = leb-false _ _ (passed 7 (omega arith)) in
-      let blank : Blank (at s.object n) (at s.operation n) (at_z s.argument n) (at s.outcome n) (at_z s.value n) =
+      let room : s.tree.count < count_most = leb-false _ _ (passed 7 (omega arith)) in
+      let blank : Blank (at s.accesses.object n) (at s.accesses.operation n) (at_z s.accesses.argument n) (at s.accesses.outcome n) (at_z s.accesses.value n) =
       (form_facts s (not-false _ (passed 0 (omega arith)))).accesses.blank n (omega arith) (λ a. omega (arith, a.0.1)) in
       let old = row_of s n in
       let new = new_row p (request_of child) in
@@ -149,9 +149,9 @@ module _ (kind : Kind) (o : ℕ) where
       let requests =
       row_by_row (requested_in o) s z n does.rows
       (ap (requested_in o) does.row ∙ no_request o new refl ∙ sym (no_request o old blank.no_outcome)) in
-      subst (λ (m : ℕ). Takes (object_of kind) opening Commutes (at s.parent) (created m p (role_of kind o child)) (locking_of kind o s) (locking_of kind o z))
+      subst (λ (m : ℕ). Takes (object_of kind) opening Commutes (at s.tree.parent) (created m p (role_of kind o child)) (locking_of kind o s) (locking_of kind o z))
       (sym (ap (λ r. r.answer.a) ((create_decided s p child).does e)))
-      (takes_created opening Commutes (at s.parent) n p (role_of kind o child) (locking_of kind o s) (locking_of kind o z)
+      (takes_created opening Commutes (at s.tree.parent) n p (role_of kind o child) (locking_of kind o s) (locking_of kind o z)
       (no_role kind o old blank.no_operation)
       (ap (role_in kind o) does.row ∙ new_role kind o p child)
       (λ x d. ap (role_in kind o) (does.rows x d))
@@ -162,8 +162,8 @@ module _ (kind : Kind) (o : ℕ) where
   starts kinds openings =
       let z = (open_of kinds openings).store in
       let zero : (x : ℕ) → at (replicate rows_most 0) x ≡ 0 = filled_at 0 rows_most in
-      let rows : (x : ℕ) → (at z.operation x ≡ 0) × (at z.outcome x ≡ 0) =
-      λ x. opened_or_empty (λ z. (at z.operation x ≡ 0) × (at z.outcome x ≡ 0)) kinds openings (λ e. (zero x, zero x)) (zero x, zero x) in
+      let rows : (x : ℕ) → (at z.accesses.operation x ≡ 0) × (at z.accesses.outcome x ≡ 0) =
+      λ x. opened_or_empty (λ z. (at z.accesses.operation x ≡ 0) × (at z.accesses.outcome x ≡ 0)) kinds openings (λ e. (zero x, zero x)) (zero x, zero x) in
       record {
         created = λ x. no_role kind o (row_of z x) (rows x).0;
         commit_requested = λ x. no_request o (row_of z x) (rows x).1;

@@ -32,22 +32,22 @@ pub record Ways (kind : Kind) (o : ℕ) (s : Store) (P : Call → List (Event (o
   pub refused : (c : Call) → ¬ ((reply_to s c).answer.code ≡ 0) → P c []
   pub creates : (p : ℕ) (child : Child) → (create_of s p child).answer.code ≡ 0
       → P (create p child) (created (create_of s p child).answer.a p (role_of kind o child) ∷ [])
-  pub responds : (t : ℕ) → (respond_of s t).answer.code ≡ 0 → at s.object t ≡ o
+  pub responds : (t : ℕ) → (respond_of s t).answer.code ≡ 0 → at s.accesses.object t ≡ o
       → P (respond t) (responded t (outcome_for (respond_of s t).answer.a (respond_of s t).answer.b) ∷ [])
-  pub elsewhere : (t : ℕ) → (respond_of s t).answer.code ≡ 0 → ¬ (at s.object t ≡ o) → P (respond t) []
+  pub elsewhere : (t : ℕ) → (respond_of s t).answer.code ≡ 0 → ¬ (at s.accesses.object t ≡ o) → P (respond t) []
   pub commits : (t : ℕ) → (commit_of s t).answer.code ≡ 0 → P (commit t) (committed t ∷ [])
   pub aborts : (t : ℕ) → (abort_of s t).answer.code ≡ 0 → P (abort t) (aborted t ∷ [])
 
 module _ (kind : Kind) (o : ℕ) (s : Store) (sized : Sized s) (fine : in_form s ≡ true) (kinds : kind_at s o ≡ kind)
     (h : History (object_of kind)) (agrees : Agrees h (seen_by kind o s)) where
   -- the history has t as an access to the object exactly when the row says so
-  access_on : (t : ℕ) → (respond_of s t).answer.code ≡ 0 → at s.object t ≡ o → access_in h t ≡ true
+  access_on : (t : ℕ) → (respond_of s t).answer.code ≡ 0 → at s.accesses.object t ≡ o → access_in h t ≡ true
   access_on t done on =
       let tests = respond_tests kind o s t fine sized kinds on done in
       let asked = row_asked h (seen_by kind o s) agrees t tests.ask tests.finish.pos tests.finish.known tests.asked in
       asked_access h t asked.0 tests.ask asked.1
 
-  access_off : (t : ℕ) → ¬ (at s.object t ≡ o) → access_in h t ≡ false
+  access_off : (t : ℕ) → ¬ (at s.accesses.object t ≡ o) → access_in h t ≡ false
   access_off t off =
       not_so (access_in h t) (λ e.
       let k = access_asked h t e in
@@ -59,7 +59,7 @@ module _ (kind : Kind) (o : ℕ) (s : Store) (sized : Sized s) (fine : in_form s
     accepted_ways (respond t) done =
         let accepted = eq-eqb (respond_of s t).answer.code 0 done in
         ⊎_elim (λ on. rw (accepted, access_on t done on) (ways.responds t done on)) (λ off. rw (accepted, access_off t off) (ways.elsewhere t done off))
-        (same_or (at s.object t) o)
+        (same_or (at s.accesses.object t) o)
     accepted_ways (commit t) done = rw (eq-eqb (commit_of s t).answer.code 0 done) (ways.commits t done)
     accepted_ways (abort t) done = rw (eq-eqb (abort_of s t).answer.code 0 done) (ways.aborts t done)
 

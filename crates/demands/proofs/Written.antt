@@ -41,16 +41,16 @@ module _ (kind : Kind) (o : ℕ) (s : Store) where
     abbrev z : Store
     z = (create_of s p child).store
 
-    adds : Adds seen (seen_by kind o z) (s.count + 1) p (role_of kind o child)
+    adds : Adds seen (seen_by kind o z) (s.tree.count + 1) p (role_of kind o child)
     adds =
         let does = create_does s p child sized done in
         let form : Form s = form_facts s fine in
-        let n = s.count + 1 in
-        let room : s.count < count_most = leb-false _ _ ((create_decided s p child).passed.0 done 7 (omega arith)) in
+        let n = s.tree.count + 1 in
+        let room : s.tree.count < count_most = leb-false _ _ ((create_decided s p child).passed.0 done 7 (omega arith)) in
         let row : n < rows_most = omega arith in
-        let unused : Used s.count n → ⊥ = λ u. omega (arith, u.1) in
+        let unused : Used s.tree.count n → ⊥ = λ u. omega (arith, u.1) in
         let blank = form.accesses.blank n row (λ a. unused a.0) in
-        let old : (m : ℕ) → m ≤ s.count → m ≡ n → ⊥ = λ m h e. omega arith in
+        let old : (m : ℕ) → m ≤ s.tree.count → m ≡ n → ⊥ = λ m h e. omega arith in
         record {
           next = omega arith;
           count = does.count;
@@ -82,24 +82,24 @@ module _ (kind : Kind) (o : ℕ) (s : Store) where
       roles = row_by_row (role_in kind o) s after t does.rows (ap (role_in kind o) does.row);
     }
 
-    respond_states : (m : ℕ) → at after.state m ≡ at s.state m
+    respond_states : (m : ℕ) → at after.tree.state m ≡ at s.tree.state m
     respond_states = row_by_row (λ r. r.state) s after t does.rows (ap (λ r. r.state) does.row)
 
-    respond_says : in_form s ≡ true → kind_at s o ≡ kind → at s.object t ≡ o
+    respond_says : in_form s ≡ true → kind_at s o ≡ kind → at s.accesses.object t ≡ o
         → Says seen (seen_by kind o after) t (outcome_for (respond_of s t).answer.a (respond_of s t).answer.b)
     respond_says fine kinds on =
         let r : Response kind o t s = response kind o t s sized fine kinds on done in
-        let there : at after.object t ≡ o = ap (λ r. r.object) does.row ∙ on in
+        let there : at after.accesses.object t ≡ o = ap (λ r. r.object) does.row ∙ on in
         record {
           rows = respond_rows;
           before = no_reply kind o (row_of s t) r.unanswered;
-          own = rw (eq-eqb (at after.object t) o there, r.own, r.handed);
+          own = rw (eq-eqb (at after.accesses.object t) o there, r.own, r.handed);
           replies = λ m n. ap (reply_in kind o) (does.rows m n);
           states = respond_states;
         }
 
     -- at another object
-    respond_idles : ¬ (at s.object t ≡ o) → Idles seen (seen_by kind o after)
+    respond_idles : ¬ (at s.accesses.object t ≡ o) → Idles seen (seen_by kind o after)
     respond_idles off = record {
       rows = respond_rows;
       states = respond_states;
@@ -108,7 +108,7 @@ module _ (kind : Kind) (o : ℕ) (s : Store) where
     }
 
   -- t commits or aborts: only its state changes
-  ends : (z : Store) (t k : ℕ) → FinishTests seen t → z.count ≡ s.count → row_of z t ≡ in_state (row_of s t) k → ((m : ℕ) → (m ≡ t → ⊥) → row_of z m ≡ row_of s m)
+  ends : (z : Store) (t k : ℕ) → FinishTests seen t → z.tree.count ≡ s.tree.count → row_of z t ≡ in_state (row_of s t) k → ((m : ℕ) → (m ≡ t → ⊥) → row_of z m ≡ row_of s m)
       → Ends seen (seen_by kind o z) t k
   ends z t k tests count row rows = record {
     rows = record {

@@ -18,7 +18,7 @@ refusals_to s (commit t) = commit_refusals s t
 refusals_to s (abort t) = abort_refusals s t
 
 abbrev pub done_to : Store → Call → Reply
-done_to s (create p child) = reply_of (created s p (request_of child)) (answer_of 0 (s.count + 1) (pos 0))
+done_to s (create p child) = reply_of (created s p (request_of child)) (answer_of 0 (s.tree.count + 1) (pos 0))
 done_to s (respond t) = let result = result_of (asking_of s t) in reply_of (responded s t result) (answer_of 0 result.a result.b)
 done_to s (commit t) = reply_of (committed s t) (answer_of 0 t (pos 0))
 done_to s (abort t) = reply_of (aborted s t) (answer_of 0 t (pos 0))

@@ -46,12 +46,12 @@ pub record Demand1 : Type 0 where
 pub record RowsAgree (r : Run) : Type 0 where
   pub formed : in_form (store_in r) ≡ true
   -- the numbers given are 1 to the count; each was higher than all before it (`allowed`)
-  pub numbers : (n : ℕ) → Known (history_in r) n ↔ (n ≤ (store_in r).count)
-  pub tree : Tree (history_in r) (at (store_in r).parent)
-  pub committed : (t : ℕ) → Committed (history_in r) t ↔ (at (store_in r).state t ≡ has_committed)
-  pub aborted : (t : ℕ) → Aborted (history_in r) t ↔ (at (store_in r).state t ≡ has_aborted)
+  pub numbers : (n : ℕ) → Known (history_in r) n ↔ (n ≤ (store_in r).tree.count)
+  pub tree : Tree (history_in r) (at (store_in r).tree.parent)
+  pub committed : (t : ℕ) → Committed (history_in r) t ↔ (at (store_in r).tree.state t ≡ has_committed)
+  pub aborted : (t : ℕ) → Aborted (history_in r) t ↔ (at (store_in r).tree.state t ≡ has_aborted)
   -- which are accesses to the object, what they ask, and which are answered
-  pub asked : (x : ℕ) → 0 < x → x ≤ (store_in r).count → (a : Operation) → Asked (history_in r) x a ↔ ((locking_in r (store_in r)).created x ≡ access a)
+  pub asked : (x : ℕ) → 0 < x → x ≤ (store_in r).tree.count → (a : Operation) → Asked (history_in r) x a ↔ ((locking_in r (store_in r)).created x ≡ access a)
   pub answered : (x : ℕ) → ((locking_in r (store_in r)).commit_requested x ≡ true) ↔ ((v : Outcome) × (responded x v ∈ history_in r))
   -- each accepted call was allowed by those before it
   pub allowed : Accepted (history_in r)
@@ -71,7 +71,7 @@ pub record Demand2 : Type 0 where
   -- step, on the tree of the transactions created so far, and no other call, accepted or refused, changes it
   pub starts : (r : Run) → Initial (locking_in r (opened_in r))
   pub steps : (r : Run) (c : Call) → let reply = reply_to (store_in r) c in
-      Moves (kind_in r) (start_in r) (Commute (object_of (kind_in r))) (at (store_in r).parent) (events (kind_in r) r.object (history_in r) c reply.answer)
+      Moves (kind_in r) (start_in r) (Commute (object_of (kind_in r))) (at (store_in r).tree.parent) (events (kind_in r) r.object (history_in r) c reply.answer)
       (locking_in r (store_in r)) (locking_in r reply.store)
   -- its intentions are the lists, access by access
   pub lists : (r : Run) (u : ℕ) → map (λ e. e.who) ((locking_in r (store_in r)).intentions u) ≡ list_of (store_in r) r.object u
@@ -83,12 +83,12 @@ pub record Demand2 : Type 0 where
   -- request Q-2, of two answers that some state of the kind can give, with arguments in range
   pub exact : (kind : Kind) (p q : Answered) → Possible kind p → Possible kind q → (conflict_of kind p q ≡ true) ↔ ¬ Commute (object_of kind) (op_of kind p) (op_of kind q)
   -- so no wait is without a cause: whatever is in the way does not commute with the asking operation and its result
-  pub caused : (s : Store) (t : ℕ) → (respond_of s t).answer.code ≡ 13 → (b : Blocked s t) → let kind = kind_at s (at s.object t) in
+  pub caused : (s : Store) (t : ℕ) → (respond_of s t).answer.code ≡ 13 → (b : Blocked s t) → let kind = kind_at s (at s.accesses.object t) in
       ¬ Commute (object_of kind) (op_of kind b.asking) (op_of kind b.conflicting.held)
 
 -- the view of t in the store after the calls of a run, each access with its recorded result
 abbrev pub viewed : (r : Run) → ℕ → List (Step (object_of (kind_in r)))
-viewed r t = total (at (store_in r).parent) (locking_in r (store_in r)) t
+viewed r t = total (at (store_in r).tree.parent) (locking_in r (store_in r)) t
 
 -- 3. Take any sequence of calls on a newly opened store, an object, and a job with nothing dropped at or above it. From the accepted calls alone, take that
 -- object's answered steps visible to that job. Order siblings' work by when they finished, one still open last. Fed in that order to the plain serial object

@@ -1,13 +1,11 @@
 -- The accepted calls, as one object sees them: from the calls and their answers alone. Source: document 00, 3; document 01, "Visible work and
 -- finishing order".
-use Rattle.std.specs.Prelude.{ℕ, Bool, true, false, cond, ◌&&◌, ◌||◌, List, [], ◌∷◌, ◌++◌, ℤ, eqb}
+use Rattle.std.specs.Prelude.{ℕ, Bool, true, false, cond, ◌&&◌, ◌||◌, List, [], ◌∷◌, ◌++◌, ℤ, eqb, Option, Some, None}
 use Rattle.theory.specs.Serial.{Serial}
 use Rattle.theory.specs.History.{Role, other, access, Event, created, responded, committed, aborted, History}
 use Rattle.kinds.specs.declared.Kind.{Kind}
 use Rattle.kinds.specs.declared.outcome.Outcome.{Outcome}
 use Rattle.kinds.specs.declared.outcome.Outcome.TheVariants.{Ok, Fail, Value}
-use Rattle.kinds.specs.declared.Decoded.{Decoded}
-use Rattle.kinds.specs.declared.Decoded.TheVariants.{Fit, Unfit}
 use Rattle.kinds.specs.Kinds.{decode_of}
 use Rattle.kinds.specs.Outcome.{ok, fail}
 use Rattle.kinds.specs.Object.{object_of}
@@ -16,15 +14,16 @@ use Rattle.refusal.specs.declared.Answer.{Answer}
 use Rattle.refusal.specs.declared.Child.{Child}
 use Rattle.refusal.specs.declared.Child.TheVariants.{Plain, Access}
 use Rattle.store.specs.Calls.{Call, create, respond, commit, abort, reply_to}
+use Rattle.kinds.specs.declared.Operation.{Operation}
 
 -- the outcome that a and b stand for: a is 1 for OK, 0 for FAIL, 2 for a value; b is the value. No other numbers are handed out (`handed_out`).
 abbrev pub outcome_for : ℕ → ℤ → Outcome
 outcome_for a b = cond (eqb a ok) Ok (cond (eqb a fail) Fail (Value b))
 
 -- what is asked of an object of the kind; a plain transaction asks nothing that fits
-abbrev pub asking : (kind : Kind) → Decoded → Role (object_of kind)
-asking kind (Fit a) = access a
-asking kind Unfit = other
+abbrev pub asking : (kind : Kind) → Option Operation → Role (object_of kind)
+asking kind (Some a) = access a
+asking kind None = other
 
 abbrev pub is_access : {S : Serial} → Role S → Bool
 is_access other = false

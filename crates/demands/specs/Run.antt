@@ -18,7 +18,7 @@ pub record Run : Type 0 where
   pub openings : List ℤ
   pub calls : List Call
   pub object : ℕ
-  pub has : object < (open_of kinds openings).store.objects
+  pub has : object < (open_of kinds openings).store.objects.count
 
 abbrev pub opened_in : Run → Store
 opened_in r = (open_of r.kinds r.openings).store

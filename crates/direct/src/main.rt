@@ -2,10 +2,9 @@
 // prints a heading and then a line `code a b` for each call, the opening first.
 #![tactic(auto)]
 
-mod calls;
 mod edges;
 mod openings;
-mod show;
+mod session;
 
 use std::io;
 

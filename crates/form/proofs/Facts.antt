@@ -1,5 +1,6 @@
 -- What the form rules say of each row: for each test a record, the test from the record and the record from the test.
 -- A row's own record is over the row's values, so that a change elsewhere in a column leaves it as it is.
+use Rattle.std.specs.Prelude.{Option, Some, None}
 use Prim.Native.Nat.{ℕ, ◌+◌, ◌-◌, ◌<◌, ◌≤◌}
 use mathlib.Core.Bool.{Bool, true, false, ◌&&◌, not, false≢true}
 use mathlib.Core.Path.{◌≡◌, refl, sym, ap, ◌∙◌}
@@ -8,6 +9,7 @@ use mathlib.Core.List.{List}
 use native.Mathlib.Omega.{arith}
 use lib.IntN.{ℤ, pos, negsuc}
 use lib.Dec.{eqb, leb, ltb}
+use Rattle.std.proofs.lemmas.Bool.Decides.{nat_tests}
 use borrow.Author.Tests.{ltb-true, ltb-false, leb-true, eqb-true, lt-ltb, le-ltb, le-leb, eq-eqb, ne_eqb, eqb-false, not-true}
 use Rattle.below.specs.Below.{all_below}
 use Rattle.below.specs.Climb.{Lower}
@@ -15,11 +17,7 @@ use Rattle.below.proofs.Tests.{bool_or, not_so, same_or, le_or, and_both, and_fs
 use Rattle.below.proofs.Search.{all_at, all_of}
 use Rattle.below.proofs.Climb.{up_le}
 use Rattle.kinds.specs.declared.Operation.{Operation}
-use Rattle.kinds.specs.declared.Decoded.{Decoded}
-use Rattle.kinds.specs.declared.Decoded.TheVariants.{Fit, Unfit}
 use Rattle.kinds.specs.declared.outcome.Outcome.{Outcome}
-use Rattle.kinds.specs.declared.outcome.Recalled.{Recalled}
-use Rattle.kinds.specs.declared.outcome.Recalled.TheVariants.{Given, Unshaped}
 use Rattle.kinds.specs.Kinds.{kind_of, opened_of, opens, decode_of, recall_of}
 use Rattle.columns.specs.Column.{at, at_z, rows_most, places_most}
 use Rattle.columns.specs.Tree.{has_aborted, at_or_above}
@@ -52,7 +50,7 @@ module _ (objects : ℕ) (kind : List ℕ) (opening : List ℤ) where
       record {
         few = few;
         opened = λ o h. rw (lt-ltb o objects h) at (each o (omega arith));
-        unused_kind = λ o l h. eqb-true _ _ (and_fst (eqb (at kind o) 0) _ (unused o l h));
+        unused_kind = λ o l h. let z = unused o l h in grind (arith, nat_tests);
         unused_opening = λ o l h. zero_is _ (and_snd (eqb (at kind o) 0) _ (unused o l h));
       }
 
@@ -62,7 +60,7 @@ module _ (objects : ℕ) (kind : List ℕ) (opening : List ℤ) where
       and_both (leb objects objects_most) _ (le-leb _ _ f.few)
       (all_of (object_fine objects kind opening) objects_most
       (λ o h. by_cases (ltb o objects) _ _ (λ t. f.opened o (ltb-true _ _ t))
-      (λ n. let l : objects ≤ o = ltb-false o objects n in and_both (eqb (at kind o) 0) _ (eq-eqb _ _ (f.unused_kind o l h)) (is_zero_lem _ (f.unused_opening o l h)))))
+      (λ n. let l : objects ≤ o = ltb-false o objects n in rw (f.unused_kind o l h) (is_zero_lem _ (f.unused_opening o l h)))))
 
 -- a row is a transaction's, or else the root's or unused
 abbrev pub Used : ℕ → ℕ → Type 0
@@ -109,15 +107,9 @@ module _ (count : ℕ) (parent state operation : List ℕ) where
       λ k h n. rw (not_used count k n) at (each k h) in
       record {
         few = few;
-        rows = λ k u.
-            let rest = and_snd (ltb (at parent k) k) _ (row k u) in
-            record {
-              lower = ltb-true _ _ (and_fst (ltb (at parent k) k) _ (row k u));
-              plain_above = eqb-true _ _ (and_fst (eqb (at operation (at parent k)) 0) _ rest);
-              stated = leb-true _ _ (and_snd (eqb (at operation (at parent k)) 0) _ rest);
-            };
-        unused_parent = λ k h n. eqb-true _ _ (and_fst (eqb (at parent k) 0) _ (unused k h n));
-        unused_state = λ k h n. eqb-true _ _ (and_snd (eqb (at parent k) 0) _ (unused k h n));
+        rows = λ k u. let r = row k u in record { lower = grind (arith, nat_tests); plain_above = grind (arith, nat_tests); stated = grind (arith, nat_tests) };
+        unused_parent = λ k h n. let z = unused k h n in grind (arith, nat_tests);
+        unused_state = λ k h n. let z = unused k h n in grind (arith, nat_tests);
       }
 
   pub tree_fine_lem : Tree count parent state operation → tree_fine count parent state operation ≡ true
@@ -126,10 +118,8 @@ module _ (count : ℕ) (parent state operation : List ℕ) where
       and_both (leb count count_most) _ (le-leb _ _ t.few)
       (all_of (tree_row count parent state operation) rows_most
       (λ k h. by_cases (used count k) _ _
-      (λ u. let r = t.rows k (used_is count k u) in
-      and_both (ltb (at parent k) k) _ (lt-ltb _ _ r.lower) (and_both (eqb (at operation (at parent k)) 0) _ (eq-eqb _ _ r.plain_above) (le-leb _ _ r.stated)))
-      (λ f. let n : Used count k → ⊥ = unused_is count k f in
-      and_both (eqb (at parent k) 0) _ (eq-eqb _ _ (t.unused_parent k h n)) (eq-eqb _ _ (t.unused_state k h n)))))
+      (λ u. let r = t.rows k (used_is count k u) in grind (arith, nat_tests, r.lower, r.plain_above, r.stated))
+      (λ f. let n : Used count k → ⊥ = unused_is count k f in rw (t.unused_parent k h n, t.unused_state k h n))))
 
   pub tree_lower : Tree count parent state operation → Lower rows_most (at parent)
   tree_lower t = record { lower = λ k z h. ⊎_elim (λ u. (t.rows k u).lower) (λ n. omega (arith, t.unused_parent k h n)) (used_or count k) }
@@ -154,12 +144,12 @@ module _ (count : ℕ) (operation : List ℕ) (k : ℕ) where
 -- an outcome of a shape that the operation allows
 pub record Answer (o : Operation) (a : ℕ) (b : ℤ) : Type 0 where
   pub outcome : Outcome
-  pub recalled : recall_of o a b ≡ Given outcome
+  pub recalled : recall_of o a b ≡ Some outcome
 
 -- what is asked fits, and is answered so, or not at all
-pub record Fits (asked : Decoded) (outcome : ℕ) (value : ℤ) : Type 0 where
+pub record Fits (asked : Option Operation) (outcome : ℕ) (value : ℤ) : Type 0 where
   pub ask : Operation
-  pub fit : asked ≡ Fit ask
+  pub fit : asked ≡ Some ask
   pub unanswered : outcome ≡ 0 → value ≡ pos 0
   pub answered : (outcome ≡ 0 → ⊥) → Answer ask (outcome - 1) value
 
@@ -174,20 +164,20 @@ pub record Blank (object operation : ℕ) (argument : ℤ) (outcome : ℕ) (valu
 given_is : (o : Operation) (a : ℕ) (b : ℤ) → given (recall_of o a b) ≡ true → Answer o a b
 given_is o a b e = go (recall_of o a b) refl e
   where
-    go : (r : Recalled) → recall_of o a b ≡ r → given r ≡ true → Answer o a b
-    go (Given r) q e = record { outcome = r; recalled = q }
-    go Unshaped q e = absurd (false≢true e)
+    go : (r : Option Outcome) → recall_of o a b ≡ r → given r ≡ true → Answer o a b
+    go (Some r) q e = record { outcome = r; recalled = q }
+    go None q e = absurd (false≢true e)
 
-fits_facts : (asked : Decoded) (outcome : ℕ) (value : ℤ) → fits asked outcome value ≡ true → Fits asked outcome value
-fits_facts Unfit outcome value e = absurd (false≢true e)
-fits_facts (Fit o) outcome value e = record {
+fits_facts : (asked : Option Operation) (outcome : ℕ) (value : ℤ) → fits asked outcome value ≡ true → Fits asked outcome value
+fits_facts None outcome value e = absurd (false≢true e)
+fits_facts (Some o) outcome value e = record {
   ask = o;
   fit = refl;
   unanswered = λ z. zero_is value (rw (eq-eqb outcome 0 z) at e);
   answered = λ n. given_is o (outcome - 1) value (rw (ne_eqb outcome 0 n) at e);
 }
 
-fits_fine : (asked : Decoded) (outcome : ℕ) (value : ℤ) → Fits asked outcome value → fits asked outcome value ≡ true
+fits_fine : (asked : Option Operation) (outcome : ℕ) (value : ℤ) → Fits asked outcome value → fits asked outcome value ≡ true
 fits_fine asked outcome value f =
     rw f.fit
     (by_cases (eqb outcome 0) _ _ (λ t. is_zero_lem value (f.unanswered (eqb-true _ _ t)))
@@ -234,8 +224,7 @@ module _ (objects : ℕ) (kind : List ℕ) (count : ℕ) (object operation : Lis
       (λ t. let a = access_is count operation k t in
       and_both (ltb (at object k) objects) _ (lt-ltb _ _ (f.known k h a)) (fits_fine _ (at outcome k) (at_z value k) (f.fit k h a)))
       (λ n. let b = f.blank k h (λ a. false≢true (sym n ∙ is_access_lem count operation k a)) in
-      and_both (eqb (at object k) 0) _ (eq-eqb _ _ b.no_object_lem) (and_both (eqb (at operation k) 0) _ (eq-eqb _ _ b.no_operation)
-      (and_both (is_zero (at_z argument k)) _ (is_zero_lem _ b.no_argument) (and_both (eqb (at outcome k) 0) _ (eq-eqb _ _ b.no_outcome) (is_zero_lem _ b.no_value))))))
+      rw (b.no_object_lem, b.no_operation, b.no_argument, b.no_outcome) (is_zero_lem _ b.no_value)))
 
   module _ (f : Accesses objects kind count object operation argument outcome value) (k : ℕ) (h : k < rows_most) where
     -- what has an operation, or an answer, is an access of the store
@@ -280,25 +269,13 @@ module _ (count : ℕ) (parent outcome : List ℕ) (listed : ℕ) (order holder 
         entries = λ i l.
             let all : (ltb 0 (at order i) && (leb (at order i) count && eqb (at place (at order i)) (i + 1))) ≡ true =
             rw (lt-ltb i listed l) at (entry i (omega arith)) in
-            let rest = and_snd (ltb 0 (at order i)) _ all in
-            record {
-              some = ltb-true _ _ (and_fst (ltb 0 (at order i)) _ all);
-              known = leb-true _ _ (and_fst (leb (at order i) count) _ rest);
-              placed = eqb-true _ _ (and_snd (leb (at order i) count) _ rest);
-            };
+            record { some = grind (arith, nat_tests); known = grind (arith, nat_tests); placed = grind (arith, nat_tests) };
         unused = λ i l h. eqb-true _ _ (rw (le-ltb i listed l) at (entry i h));
         unlisted = λ k h z. eqb-true _ _ (rw (eq-eqb (at place k) 0 z) at (row k h));
         rows = λ k h n.
             let all : (not (eqb (at outcome k) 0) && (leb (at place k) listed && (eqb (at order (at place k - 1)) k && at_or_above parent k (at holder k)))) ≡ true =
             rw (ne_eqb (at place k) 0 n) at (row k h) in
-            let rest = and_snd (not (eqb (at outcome k) 0)) _ all in
-            let last = and_snd (leb (at place k) listed) _ rest in
-            record {
-              answered = eqb-false _ _ (not-true _ (and_fst (not (eqb (at outcome k) 0)) _ all));
-              within = leb-true _ _ (and_fst (leb (at place k) listed) _ rest);
-              stands = eqb-true _ _ (and_fst (eqb (at order (at place k - 1)) k) _ last);
-              held = and_snd (eqb (at order (at place k - 1)) k) _ last;
-            };
+            record { answered = grind (arith, nat_tests); within = grind (arith, nat_tests); stands = grind (arith, nat_tests); held = grind (arith, nat_tests) };
       }
 
   pub lists_fine_lem : Lists count parent outcome listed order holder place → lists_fine count parent outcome listed order holder place ≡ true
@@ -308,15 +285,13 @@ module _ (count : ℕ) (parent outcome : List ℕ) (listed : ℕ) (order holder 
       (and_both (all_below places_most (order_entry count listed order place)) _
       (all_of (order_entry count listed order place) places_most
       (λ i h. by_cases (ltb i listed) _ _
-      (λ t. let r = f.entries i (ltb-true _ _ t) in
-      and_both (ltb 0 (at order i)) _ (lt-ltb _ _ r.some) (and_both (leb (at order i) count) _ (le-leb _ _ r.known) (eq-eqb _ _ r.placed)))
+      (λ t. let r = f.entries i (ltb-true _ _ t) in grind (arith, nat_tests, r.some, r.known, r.placed))
       (λ n. eq-eqb _ _ (f.unused i (ltb-false _ _ n) h))))
       (all_of (list_row parent outcome listed order holder place) rows_most
       (λ k h. by_cases (eqb (at place k) 0) _ _
       (λ t. eq-eqb _ _ (f.unlisted k h (eqb-true _ _ t)))
       (λ n. let r = f.rows k h (eqb-false _ _ n) in
-      and_both (not (eqb (at outcome k) 0)) _ (rw (ne_eqb (at outcome k) 0 r.answered)) (and_both (leb (at place k) listed) _ (le-leb _ _ r.within)
-      (and_both (eqb (at order (at place k - 1)) k) _ (eq-eqb _ _ r.stands) r.held))))))
+      rw (ne_eqb (at outcome k) 0 r.answered, le-leb _ _ r.within, eq-eqb _ _ r.stands) r.held))))
 
   module _ (f : Lists count parent outcome listed order holder place) where
     -- nothing stands twice

@@ -1,4 +1,5 @@
 -- The accesses keep their form: when one is answered, when a transaction is created, and at an opening. And objects, where there are none.
+use Rattle.std.specs.Prelude.{Some}
 use Prim.Native.Nat.{ℕ, ◌+◌, ◌-◌, ◌<◌}
 use mathlib.Core.Path.{◌≡◌, sym, ap, ◌∙◌}
 use mathlib.Core.Logic.{⊎_elim}
@@ -10,9 +11,7 @@ use lib.Seq.{get_or-set_same, get_or-set_other}
 use Rattle.below.proofs.Tests.{same_or}
 use Rattle.below.proofs.Column.{filled_at}
 use Rattle.kinds.specs.declared.Operation.{Operation}
-use Rattle.kinds.specs.declared.Decoded.TheVariants.{Fit}
 use Rattle.kinds.specs.declared.outcome.Outcome.{Outcome}
-use Rattle.kinds.specs.declared.outcome.Recalled.TheVariants.{Given}
 use Rattle.kinds.specs.Kinds.{kind_of, decode_of, recall_of}
 use Rattle.columns.specs.Column.{at, at_z, rows_most}
 use Rattle.form.specs.Form.{count_most, objects_most}
@@ -29,7 +28,7 @@ module _ (objects : ℕ) (kind : List ℕ) (count : ℕ) (object operation : Lis
 
   -- t is answered, with a result of a shape that its operation allows
   module _ (t a : ℕ) (b : ℤ) (o : Operation) (r : Outcome) (access : Access count operation t)
-      (fit : decode_of (kind_of (at kind (at object t))) (at operation t) (at_z argument t) ≡ Fit o) (shape : recall_of o a b ≡ Given r)
+      (fit : decode_of (kind_of (at kind (at object t))) (at operation t) (at_z argument t) ≡ Some o) (shape : recall_of o a b ≡ Some r)
       (outcomes : t < length outcome) (values : t < length value) where
     abbrev asked : ℕ → Type 0
     asked k = Fits (decode_of (kind_of (at kind (at object k))) (at operation k) (at_z argument k)) (at (set outcome t (a + 1)) k) (at_z (set value t b) k)
@@ -63,7 +62,7 @@ module _ (objects : ℕ) (kind : List ℕ) (count : ℕ) (object operation : Lis
 
   -- an access is created: object, operation and argument fit
   module _ (ob op : ℕ) (ar : ℤ) (o : Operation) (room : count < count_most) (known : ob < objects) (some : op ≡ 0 → ⊥)
-      (fit : decode_of (kind_of (at kind ob)) op ar ≡ Fit o)
+      (fit : decode_of (kind_of (at kind ob)) op ar ≡ Some o)
       (object-row : count + 1 < length object) (operation-row : count + 1 < length operation) (argument-row : count + 1 < length argument) where
     abbrev t : ℕ
     t = count + 1

@@ -18,7 +18,7 @@ use Rattle.columns.specs.Tree.{at_or_above}
 use Rattle.columns.specs.Work.{work, only, Found, held_by, dropped_of, moved_of}
 use Rattle.columns.proofs.Work.{Each, only_each, only_pass, each_append, work_each, work_at, length_work, order_of, place_of}
 use Rattle.columns.proofs.Once.{Once, Misses, find, found_each, found_only, each_left, each_right, only_out, once_index, once_only, once_parted, once_short, once_room, order_stands, order_past, placed, unplaced}
-use Rattle.columns.proofs.Lists.{held_past, held_miss, held_hit}
+use Rattle.columns.proofs.ListLaws.{held_past, held_miss, held_hit}
 use Rattle.form.specs.Form.{count_most}
 use Rattle.form.proofs.Facts.{Used, Tree, tree_lower, Entry, Listed, Lists, once, absent, listed_known}
 

@@ -4,5 +4,6 @@ pub mod KeptTree
 pub mod KeptAccesses
 pub mod KeptLists
 pub mod Split
+pub mod Ranges
 pub mod Climbed
 pub mod Sole

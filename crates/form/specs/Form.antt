@@ -1,13 +1,11 @@
 -- The form rules of a store, over its columns. Source: document 01, "Calls, answers and their order", the paragraph "Form rules of a store".
-use Rattle.std.specs.Prelude.{ℕ, ◌+◌, ◌-◌, Bool, true, false, cond, ◌&&◌, not, List, ℤ, pos, negsuc, eqb, leb, ltb}
+use Rattle.std.specs.Prelude.{ℕ, ◌+◌, ◌-◌, Bool, true, false, cond, ◌&&◌, not, List, ℤ, pos, negsuc, eqb, leb, ltb, Option, Some, None}
 use Rattle.below.specs.Below.{all_below}
-use Rattle.kinds.specs.declared.Decoded.{Decoded}
-use Rattle.kinds.specs.declared.Decoded.TheVariants.{Fit, Unfit}
-use Rattle.kinds.specs.declared.outcome.Recalled.{Recalled}
-use Rattle.kinds.specs.declared.outcome.Recalled.TheVariants.{Given, Unshaped}
 use Rattle.kinds.specs.Kinds.{kind_of, opened_of, opens, decode_of, recall_of}
 use Rattle.columns.specs.Column.{at, at_z, rows_most, places_most}
 use Rattle.columns.specs.Tree.{has_aborted, at_or_above}
+use Rattle.kinds.specs.declared.Operation.{Operation}
+use Rattle.kinds.specs.declared.outcome.Outcome.{Outcome}
 
 -- 0 to 64 objects and 0 to 1,024 transactions
 abbrev pub objects_most : ℕ
@@ -51,14 +49,14 @@ abbrev pub is_access : ℕ → List ℕ → ℕ → Bool
 is_access count operation k = used count k && not (eqb (at operation k) 0)
 
 -- a result of a shape its operation allows
-abbrev pub given : Recalled → Bool
-given (Given r) = true
-given Unshaped = false
+abbrev pub given : Option Outcome → Bool
+given (Some r) = true
+given None = false
 
 -- operation and argument fit; an answered access has a result of a shape its operation allows, an unanswered one has none
-abbrev pub fits : Decoded → ℕ → ℤ → Bool
-fits Unfit outcome value = false
-fits (Fit o) outcome value = cond (eqb outcome 0) (is_zero value) (given (recall_of o (outcome - 1) value))
+abbrev pub fits : Option Operation → ℕ → ℤ → Bool
+fits None outcome value = false
+fits (Some o) outcome value = cond (eqb outcome 0) (is_zero value) (given (recall_of o (outcome - 1) value))
 
 -- what is no access has no object, operation, argument or result
 abbrev pub blank : ℕ → ℕ → ℤ → ℕ → ℤ → Bool

@@ -6,10 +6,9 @@ mod climb;
 mod lists;
 mod objects;
 mod rest;
-mod row;
 mod tree;
 
 pub use access::accesses_fine;
 pub use lists::lists_fine;
-pub use objects::{OBJECTS, objects_fine, opens};
+pub use objects::{objects_fine, opens};
 pub use tree::{COUNT_MOST, tree_fine};

@@ -5,49 +5,30 @@ ghost use Rattle.columns.specs.Column.{at, at_z};
 ghost use Rattle.kinds.specs.Kinds.{kind_of, opened_of, opens};
 ghost use Rattle.form.specs.Form.{objects_most, is_zero, objects_fine};
 
-use crate::rest::{zero8_from, zero64_from};
-use kinds::Opening;
+use crate::rest::zero_from;
+use columns::objects::{OBJECTS, Objects};
 use serial::{kind_of, opened};
-
-pub const OBJECTS: usize = 64;
 
 // Whether an object of this kind opens with this value.
 pub fn opens(letter: u8, opening: i64) -> bool
     ensures { result ≡ opens (opened_of (kind_of letter) opening) }
 {
-    match opened(kind_of(letter), opening) {
-        Opening::At(_) => true,
-        Opening::Refused => false,
-    }
+    opened(kind_of(letter), opening).is_some()
 }
 
 // Whether the objects from `from` on are zero.
-fn unopened_from<'a>(kind: &'a [u8; OBJECTS], opening: &'a [i64; OBJECTS], from: usize) -> bool
+fn unopened_from(objects: &Objects, from: usize) -> bool
     requires { from ≤ objects_most }
-    ensures { result ≡ all_from from objects_most (λ o. eqb (at kind.now o) 0 && is_zero (at_z opening.now o)) }
+    ensures { result ≡ all_from from objects_most (λ o. eqb (at objects.now.kind o) 0 && is_zero (at_z objects.now.opening o)) }
 {
-    zero8_from(kind, from) & zero64_from(opening, from)
+    zero_from(&objects.kind, from) & zero_from(&objects.opening, from)
 }
 
-pub fn objects_fine<'a>(
-    objects: usize,
-    kind: &'a [u8; OBJECTS],
-    opening: &'a [i64; OBJECTS],
-) -> bool
-    ensures { result ≡ objects_fine objects kind.now opening.now }
+#[tactic(auto, using(crate::proofs::Split::objects_parts))]
+pub fn objects_fine(objects: &Objects) -> bool
+    ensures { result ≡ objects_fine objects.now.count objects.now.kind objects.now.opening }
 {
-    if OBJECTS < objects {
-        return false;
-    }
-    if !unopened_from(kind, opening, objects) {
-        return false;
-    }
-    let mut o = 0;
-    while o < objects {
-        if !opens(kind[o], opening[o]) {
-            return false;
-        }
-        o += 1;
-    }
-    true
+    objects.count <= OBJECTS
+        && unopened_from(objects, objects.count)
+        && (0..objects.count).all(|o| opens(objects.kind[o], objects.opening[o]))
 }

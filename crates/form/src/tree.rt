@@ -4,67 +4,36 @@ ghost use Rattle.below.specs.Below.{all_from};
 ghost use Rattle.columns.specs.Column.{at, rows_most};
 ghost use Rattle.form.specs.Form.{tree_row, tree_fine};
 
-use crate::rest::{zero8_from, zero16_from};
-use crate::row::{is_used, rows_to};
-use columns::tree::{ABORTED, ROWS, at16};
+use crate::rest::zero_from;
+use columns::accesses::Accesses;
+use columns::tree::{ABORTED, Tree};
 
 pub const COUNT_MOST: usize = 1024;
 
-fn row_fine<'a>(
-    count: usize,
-    parent: &'a [u16; ROWS],
-    state: &'a [u8; ROWS],
-    operation: &'a [u8; ROWS],
-    k: usize,
-) -> bool
+fn row_fine(tree: &Tree, accesses: &Accesses, k: usize) -> bool
     requires { k < rows_most }
-    ensures { result ≡ tree_row count parent.now state.now operation.now k }
+    ensures { result ≡ tree_row tree.now.count tree.now.parent tree.now.state accesses.now.operation k }
 {
-    let above = at16(parent, k);
-    if !is_used(count, k) {
-        if above != 0 {
-            return false;
-        }
-        return state[k] == 0;
+    let above = tree.parent_of(k);
+    if k == 0 || tree.count < k {
+        return above == 0 && tree.state[k] == 0;
     }
-    if k <= above {
-        return false;
-    }
-    if operation[above] != 0 {
-        return false;
-    }
-    state[k] <= ABORTED
+    above < k && accesses.operation[above] == 0 && tree.state[k] <= ABORTED
 }
 
 // Whether the rows from `from` on are zero.
-fn unused_from<'a>(parent: &'a [u16; ROWS], state: &'a [u8; ROWS], from: usize) -> bool
+fn unused_from(tree: &Tree, from: usize) -> bool
     requires { from ≤ rows_most }
-    ensures { result ≡ all_from from rows_most (λ k. eqb (at parent.now k) 0 && eqb (at state.now k) 0) }
+    ensures { result ≡ all_from from rows_most (λ k. eqb (at tree.now.parent k) 0 && eqb (at tree.now.state k) 0) }
 {
-    zero16_from(parent, from) & zero8_from(state, from)
+    zero_from(&tree.parent, from) & zero_from(&tree.state, from)
 }
 
-pub fn tree_fine<'a>(
-    count: usize,
-    parent: &'a [u16; ROWS],
-    state: &'a [u8; ROWS],
-    operation: &'a [u8; ROWS],
-) -> bool
-    ensures { result ≡ tree_fine count parent.now state.now operation.now }
+#[tactic(auto, using(crate::proofs::Split::tree_parts))]
+pub fn tree_fine(tree: &Tree, accesses: &Accesses) -> bool
+    ensures { result ≡ tree_fine tree.now.count tree.now.parent tree.now.state accesses.now.operation }
 {
-    if COUNT_MOST < count {
-        return false;
-    }
-    let rows = rows_to(count);
-    if !unused_from(parent, state, rows) {
-        return false;
-    }
-    let mut k = 0;
-    while k < rows {
-        if !row_fine(count, parent, state, operation, k) {
-            return false;
-        }
-        k += 1;
-    }
-    true
+    tree.count <= COUNT_MOST
+        && unused_from(tree, tree.rows())
+        && (0..tree.rows()).all(|k| row_fine(tree, accesses, k))
 }

@@ -14,6 +14,7 @@ pub fn read_full<R: Read>(input: &mut R, buffer: &mut [u8]) -> io::Result<usize>
     ensures err { IfErr result (λ e. (n : ℕ) × (n ≤ length buffer.new) × Consumes (R.remaining input.old) (R.remaining input.new) (take n buffer.new)) }
 {
     let mut done = 0;
+    // It goes on by as much as each read gives.
     while done < buffer.len() {
         let n = input.read(&mut buffer[done..])?;
         if n == 0 {

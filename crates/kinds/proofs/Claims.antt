@@ -1,11 +1,11 @@
 -- What is proved of the serial objects, besides each function's own contract.
+use Rattle.std.specs.Prelude.{Some}
 use mathlib.Core.Path.{◌≡◌, refl, sym, ap}
-use mathlib.Core.Bool.{true, false, true≢false}
+use mathlib.Core.Bool.{true, false}
 use mathlib.Core.Logic.{◌↔◌, ⊎_elim}
 use mathlib.Core.List.{List}
 use Prim.Native.Nat.{ℕ, ◌+◌, ◌*◌, ◌≤◌}
 use native.Mathlib.Nat.{zero-add}
-use native.Mathlib.Omega.{arith}
 use lib.IntN.{ℤ, pos, nat_abs}
 use lib.ListN.{length}
 use borrow.Author.Tests.{leb-true, le-leb}
@@ -31,10 +31,7 @@ use Rattle.kinds.specs.declared.Operation.{Operation}
 use Rattle.kinds.specs.declared.Operation.TheVariants as O
 use Rattle.kinds.specs.declared.outcome.Outcome.{Outcome}
 use Rattle.kinds.specs.declared.outcome.Outcome.TheVariants.{Ok, Value}
-use Rattle.kinds.specs.declared.outcome.Recalled.TheVariants.{Given}
 use Rattle.kinds.specs.declared.Answered.{Answered}
-use Rattle.kinds.specs.declared.Opening.TheVariants.{At}
-use Rattle.kinds.specs.declared.Decoded.TheVariants.{Fit, Unfit}
 use Rattle.kinds.proofs.Keys.{equal_keys, not_below_itself, at_most_each}
 use Rattle.kinds.proofs.Entries.{size, sized, mirror, verdict_sym}
 use Rattle.kinds.proofs.Takes.{decoded_takes, takes_room, takes_recalled, opened_grown, run_grown, grown_has}
@@ -45,15 +42,12 @@ use Rattle.kinds.proofs.register.Exact as register-exact
 use Rattle.kinds.proofs.counter.Exact as counter-exact
 use Rattle.kinds.proofs.bin.Exact as bin-exact
 
-nothing_fits : {o : Operation} → Unfit ≡ Fit o → ⊥
-nothing_fits e = let z : ◌≡◌ {A = ℕ} 0 1 = cc in omega arith
-
 exact : (kind : Kind) → Exact kind
 exact Account = account-exact.exact
 exact Register = register-exact.exact
 exact Counter = counter-exact.exact
 exact Bin = bin-exact.exact
-exact Unknown = record { passes = λ p q e. absurd (true≢false e); caused = λ p q e hp hq. absurd (nothing_fits hp.fits.2) }
+exact Unknown = record { passes = λ p q e. cc; caused = λ p q e hp hq. let none = hp.fits.2 in cc }
 
 -- What the table passes swaps in any state at all, those that the kind does not have among them.
 pub passes_swap : (kind : Kind) (p q : Answered) → conflict_of kind p q ≡ false → (s : State)
@@ -89,7 +83,7 @@ conflicts_exactly kind p q hp hq = (
 )
 
 -- Form rules: every answer on record that the form lets stand is possible.
-pub allowed_possible : (kind : Kind) (k : ℕ) (x : ℤ) (o : Operation) (a : ℕ) (b : ℤ) (r : Outcome) → decode_of kind k x ≡ Fit o → recall_of o a b ≡ Given r
+pub allowed_possible : (kind : Kind) (k : ℕ) (x : ℤ) (o : Operation) (a : ℕ) (b : ℤ) (r : Outcome) → decode_of kind k x ≡ Some o → recall_of o a b ≡ Some r
     → Possible kind (record { operation = o; outcome = r })
 allowed_possible kind k x o a b r fit e =
     let g = recalled_gives kind o a b r (decoded_takes kind k x o fit) e in
@@ -175,15 +169,15 @@ largest_balance = refl
 pub largest_count : K.opening_most + 1024 * K.adjustment_most ≡ K.count_bound
 largest_count = refl
 
-pub stays_bounded : (kind : Kind) (x : ℤ) (s : State) (l : List (Op (object_of kind))) → opened_of kind x ≡ At s → AllFit kind l → length l ≤ 1024
+pub stays_bounded : (kind : Kind) (x : ℤ) (s : State) (l : List (Op (object_of kind))) → opened_of kind x ≡ Some s → AllFit kind l → length l ≤ 1024
     → StateOf kind (run (object_of kind) s l) × Bounded (run (object_of kind) s l)
 stays_bounded kind x s l e t h = grown_has kind (0 + length l) (run (object_of kind) s l) (run_grown kind l s 0 t (opened_grown kind x s e)) (rw zero-add h)
 
 -- No sum can wrap, and every part has a digit: within its bound the object has room for what `decode` lets through.
-pub no_sum_wraps : (kind : Kind) (k : ℕ) (x : ℤ) (o : Operation) (s : State) → decode_of kind k x ≡ Fit o → Bounded s → Room s o
+pub no_sum_wraps : (kind : Kind) (k : ℕ) (x : ℤ) (o : Operation) (s : State) → decode_of kind k x ≡ Some o → Bounded s → Room s o
 no_sum_wraps kind k x o s e = takes_room kind o s (decoded_takes kind k x o e)
 
 -- Form rules: an answer is of a shape that its operation allows, and its numbers are read back as that answer.
-pub answers_recalled : (kind : Kind) (k : ℕ) (x : ℤ) (o : Operation) (s : State) → decode_of kind k x ≡ Fit o → StateOf kind s → Bounded s
-    → recall_of o (numbers_of (step_of s o).outcome).a (numbers_of (step_of s o).outcome).b ≡ Given (step_of s o).outcome
+pub answers_recalled : (kind : Kind) (k : ℕ) (x : ℤ) (o : Operation) (s : State) → decode_of kind k x ≡ Some o → StateOf kind s → Bounded s
+    → recall_of o (numbers_of (step_of s o).outcome).a (numbers_of (step_of s o).outcome).b ≡ Some (step_of s o).outcome
 answers_recalled kind k x o s e has = takes_recalled kind o s has (decoded_takes kind k x o e)

@@ -1,10 +1,10 @@
 -- A square table of rules, kept as rows: one test that antt computes over the whole table, and what it says at every row and column.
+use Rattle.std.specs.Prelude.{Option, Some, None}
 use mathlib.Core.Path.{◌≡◌, refl, sym, ap, ◌∙◌}
 use mathlib.Core.Bool.{Bool, true, not, ◌&&◌, and-eq-true_iff, or_comm}
 use mathlib.Core.Logic.{⊎_elim}
-use mathlib.Core.List.{List, [], ◌∷◌}
+use mathlib.Core.List.{List, []}
 use Prim.Native.Nat.{ℕ, zero, suc, ◌<◌, ◌≤◌}
-use native.Mathlib.Omega.{arith}
 use lib.IntN.{ℤ}
 use lib.Signed.{lt_z}
 use lib.Dec.{eqb}
@@ -18,15 +18,8 @@ use Rattle.kinds.specs.Table.{entry, judge, verdict}
 use Rattle.kinds.specs.declared.Kind.{Kind}
 use Rattle.kinds.specs.declared.Kind.TheVariants.{Account, Register, Counter, Bin, Unknown}
 use Rattle.kinds.specs.declared.table.Class.{Class}
-use Rattle.kinds.specs.declared.table.Class.TheVariants.{Row, None}
 use Rattle.kinds.specs.declared.table.Rule.{Rule}
 use Rattle.kinds.specs.declared.table.Rule.TheVariants.{Pass, Conflict, UnlessEqual, IfEqual, IfAtLeast, IfAtMost}
-
--- inside a list the default is of no account
-default_free : {A : Type 0} (l : List A) (k : ℕ) (d e : A) → k < length l → get_or l k d ≡ get_or l k e
-default_free [] k d e h = absurd (omega arith)
-default_free (x ∷ l) zero d e h = refl
-default_free (x ∷ l) (suc k) d e h = default_free l k d e (omega arith)
 
 -- there are n rows, each of n entries
 abbrev pub square : ℕ → List (List Rule) → Bool
@@ -54,10 +47,6 @@ module _ (rows : List (List Rule)) (n : ℕ) (full : square n rows ≡ true) whe
   row_length : (a : ℕ) → a < n → length (get_or rows a []) ≡ n
   row_length a h = eqb-true _ _ (all_at (λ a. eqb (length (get_or rows a [])) n) n a parts.1 h)
 
-  pub inside : (a b : ℕ) → a < n → b < n → get_or (get_or rows a []) b Pass ≡ entry rows a b
-  unfolding entry
-  inside a b ha hb = default_free (get_or rows a []) b Pass Conflict (rw (row_length a ha) hb)
-
   pub past_rows : (a b : ℕ) → n ≤ a → Conflict ≡ entry rows a b
   unfolding entry
   past_rows a b h = ap (λ r. get_or r b Conflict) (sym (get_or-eq_default rows [] {n = a} (rw (eqb-true (length rows) n parts.0) h)))
@@ -67,8 +56,8 @@ module _ (rows : List (List Rule)) (n : ℕ) (full : square n rows ≡ true) whe
   past_row a b hb =
       ⊎_elim (λ ha. past_rows a b ha) (λ ha. sym (get_or-eq_default (get_or rows a []) Conflict {n = b} (rw (row_length a ha) hb))) (le_or n a)
 
-pub no_column : (rows : List (List Rule)) (c : Class) → verdict rows c None ≡ true
-no_column rows (Row a k) = refl
+pub no_column : (rows : List (List Rule)) (c : Option Class) → verdict rows c None ≡ true
+no_column rows (Some c) = refl
 no_column rows None = refl
 
 -- the rule seen from the other side
@@ -131,10 +120,10 @@ module _ (rows : List (List Rule)) (n : ℕ) (full : square n rows ≡ true) (mi
       (le_or n b))
       (le_or n a)
 
-  pub verdict_sym : (c d : Class) → verdict rows c d ≡ verdict rows d c
-  verdict_sym (Row a k) (Row b l) = ap (λ r. judge r k l) (entry_turned a b) ∙ turned_judges (entry rows b a) k l
-  verdict_sym (Row a k) None = refl
-  verdict_sym None (Row b l) = refl
+  pub verdict_sym : (c d : Option Class) → verdict rows c d ≡ verdict rows d c
+  verdict_sym (Some c) (Some d) = ap (λ r. judge r c.key d.key) (entry_turned c.row d.row) ∙ turned_judges (entry rows d.row c.row) c.key d.key
+  verdict_sym (Some c) None = refl
+  verdict_sym None (Some d) = refl
   verdict_sym None None = refl
 
 pub mirror : (kind : Kind) → mirrored (size kind) (table_of kind) ≡ true

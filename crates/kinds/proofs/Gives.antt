@@ -1,12 +1,14 @@
 -- Every answer that the form lets stand is possible: some state of the kind gives it.
+use Rattle.std.specs.Prelude.{Option, Some, None}
 use mathlib.Core.Path.{◌≡◌, refl, ap}
-use mathlib.Core.Bool.{true, false≢true}
+use mathlib.Core.Bool.{true}
 use Prim.Native.Nat.{ℕ, zero, suc, ◌^◌, ◌≤◌}
 use native.Mathlib.Omega.{arith}
 use lib.IntN.{ℤ, pos, negsuc, neg_ℤ, nat_abs}
 use lib.Signed.{le_z}
 use lib.Dec.{eqb}
 use borrow.Author.Tests.{leb-true, le-leb, lt-leb}
+use Rattle.std.proofs.lemmas.Int.{ints}
 use Rattle.theory.specs.Serial.{Right}
 use Rattle.kinds.specs.Outcome.{ok, fail, value, without_value, recalled}
 use Rattle.kinds.specs.Kinds.{recall_of}
@@ -28,8 +30,6 @@ use Rattle.kinds.specs.declared.Operation.TheVariants as O
 use Rattle.kinds.specs.declared.outcome.Outcome.{Outcome}
 use Rattle.kinds.specs.declared.outcome.Outcome.TheVariants.{Ok, Fail, Value}
 use Rattle.kinds.specs.declared.outcome.Shape.TheVariants.{Done, DoneOrFailed, Between}
-use Rattle.kinds.specs.declared.outcome.Recalled.{Recalled}
-use Rattle.kinds.specs.declared.outcome.Recalled.TheVariants.{Given, Unshaped}
 use Rattle.kinds.proofs.Within.{ranged, ranged_signed, either}
 use Rattle.kinds.proofs.Digits.{none_in, one_in, power_most}
 use Rattle.kinds.proofs.Takes.{Takes, balance, deposit, withdraw, read, write, adjust, count, put, take, look}
@@ -37,13 +37,13 @@ use Rattle.kinds.proofs.Takes.{Takes, balance, deposit, withdraw, read, write, a
 abbrev pub Gives : Kind → Operation → Outcome → Type 0
 Gives kind o r = (s : State) × StateOf kind s × Right (object_of kind) s (record { ask = o; reply = r })
 
-abbrev GivesIf : Kind → Operation → Recalled → Type 0
-GivesIf kind o (Given r) = Gives kind o r
-GivesIf kind o Unshaped = Unit {0}
+abbrev GivesIf : Kind → Operation → Option Outcome → Type 0
+GivesIf kind o (Some r) = Gives kind o r
+GivesIf kind o None = Unit {0}
 
 -- an outcome that has no value
 plain : (kind : Kind) (o : Operation) (r : Outcome) (b : ℤ) → Gives kind o r → GivesIf kind o (without_value r b)
-plain kind o r b g = ranged (GivesIf kind o) (λ n. Given r) Unshaped b 0 0 (λ n l h. g) tt
+plain kind o r b g = ranged (GivesIf kind o) (λ n. Some r) None b 0 0 (λ n l h. g) tt
 
 -- each shape, from a state for each of its outcomes
 module _ (kind : Kind) (o : Operation) (a : ℕ) (b : ℤ) where
@@ -55,16 +55,14 @@ module _ (kind : Kind) (o : Operation) (a : ℕ) (b : ℤ) where
       either (GivesIf kind o) (eqb a ok) _ _ (plain kind o Ok b ok_at) (either (GivesIf kind o) (eqb a fail) _ _ (plain kind o Fail b fail-at) tt)
 
   between : (low high : ℤ) → (le_z low b ≡ true → le_z b high ≡ true → Gives kind o (Value b)) → GivesIf kind o (recalled (Between low high) a b)
-  between low high at = either (GivesIf kind o) (eqb a value) _ _ (ranged_signed (GivesIf kind o) (λ v. Given (Value v)) Unshaped b low high at tt) tt
+  between low high at = either (GivesIf kind o) (eqb a value) _ _ (ranged_signed (GivesIf kind o) (λ v. Some (Value v)) None b low high at tt) tt
 
 -- a value from 0
 from_zero : (b : ℤ) → le_z (pos 0) b ≡ true → pos (nat_abs b) ≡ b
-from_zero (pos n) e = refl
-from_zero (negsuc n) e = absurd (false≢true e)
+from_zero b e = grind (arith, ints)
 
 at_most : (b : ℤ) (n : ℕ) → le_z (pos 0) b ≡ true → le_z b (pos n) ≡ true → nat_abs b ≤ n
-at_most (pos m) n l h = leb-true m n h
-at_most (negsuc m) n l h = absurd (false≢true l)
+at_most b n l h = grind (arith, ints)
 
 -- from an empty bin, and from one with a part alone
 empty : (o : BinOperation) (r : Outcome) → Right (object_of Bin) (B.bin_of 0) (record { ask = O.Bin o; reply = r }) → Gives Bin (O.Bin o) r
@@ -77,7 +75,7 @@ seen : (b : ℤ) (i : ℕ) → i ≤ B.part_most → le_z (pos 0) b ≡ true →
 seen (pos zero) i h l r = empty (Look i) (Value (pos 0)) (rw (none_in i) refl)
 seen (pos (suc zero)) i h l r = alone i h (Look i) (Value (pos 1)) (rw (one_in i) refl)
 seen (pos (suc (suc n))) i h l r = absurd (omega (arith, leb-true (suc (suc n)) 1 r))
-seen (negsuc n) i h l r = absurd (false≢true l)
+seen (negsuc n) i h l r = cc
 
 gives_if : (kind : Kind) (o : Operation) (a : ℕ) (b : ℤ) → Takes kind o → GivesIf kind o (recall_of o a b)
 gives_if kind o a b balance =
@@ -97,5 +95,5 @@ gives_if kind o a b (take {i} h) =
     done_or_failed Bin (O.Bin (Take i)) a b (alone i h (Take i) Ok (rw (one_in i) refl)) (empty (Take i) Fail (rw (none_in i) refl))
 gives_if kind o a b (look {i} h) = between Bin (O.Bin (Look i)) a b (pos 0) (pos 1) (seen b i h)
 
-pub recalled_gives : (kind : Kind) (o : Operation) (a : ℕ) (b : ℤ) (r : Outcome) → Takes kind o → recall_of o a b ≡ Given r → Gives kind o r
+pub recalled_gives : (kind : Kind) (o : Operation) (a : ℕ) (b : ℤ) (r : Outcome) → Takes kind o → recall_of o a b ≡ Some r → Gives kind o r
 recalled_gives kind o a b r t e = rw e at (gives_if kind o a b t)

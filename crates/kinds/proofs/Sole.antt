@@ -36,7 +36,7 @@ bin_rule_of κs a x y s t = sole
 judge : Sole 0 of.table.Rule.judge.Kinds.ps of.table.Rule.judge.Kinds.r of.table.Rule.judge.Reads.Learnt
 judge κs a x y s t = sole
 
-numbers_of_lem : Sole 0 of.outcome.numbers_of.Kinds.ps of.outcome.numbers_of.Kinds.r of.outcome.numbers_of.Reads.Learnt
+numbers_of_lem : Sole 0 of.outcome.NumbersFromOutcome.from.Kinds.ps of.outcome.NumbersFromOutcome.from.Kinds.r of.outcome.NumbersFromOutcome.from.Reads.Learnt
 numbers_of_lem κs a x y s t = sole
 
 recall : Sole 0 of.outcome.Shape.recall.Kinds.ps of.outcome.Shape.recall.Kinds.r of.outcome.Shape.recall.Reads.Learnt

@@ -1,4 +1,5 @@
 -- What `decode` lets through: the operations of the kind with their arguments in range. So no sum wraps, and every answer is one that the form allows.
+use Rattle.std.specs.Prelude.{Option, Some, None}
 use mathlib.Core.Path.{◌≡◌, refl}
 use mathlib.Core.Bool.{true}
 use mathlib.Core.Logic.{⊎_elim}
@@ -31,12 +32,7 @@ use Rattle.kinds.specs.declared.State.{State}
 use Rattle.kinds.specs.declared.State.TheVariants as S
 use Rattle.kinds.specs.declared.Operation.{Operation}
 use Rattle.kinds.specs.declared.Operation.TheVariants as O
-use Rattle.kinds.specs.declared.Opening.{Opening}
-use Rattle.kinds.specs.declared.Opening.TheVariants.{At, Refused}
-use Rattle.kinds.specs.declared.Decoded.{Decoded}
-use Rattle.kinds.specs.declared.Decoded.TheVariants.{Fit, Unfit}
 use Rattle.kinds.specs.declared.outcome.Outcome.TheVariants.{Value}
-use Rattle.kinds.specs.declared.outcome.Recalled.TheVariants.{Given}
 use Rattle.kinds.proofs.Within.{ranged, either}
 use Rattle.kinds.proofs.Digits.{by_part, put_fits}
 use Rattle.kinds.proofs.Sizes.{sum_size, above_least, below_most, either_sided}
@@ -53,27 +49,27 @@ pub data Takes : Kind → Operation → Type 0 where
   take : {i : ℕ} → i ≤ B.part_most → Takes Bin (O.Bin (Take i))
   look : {i : ℕ} → i ≤ B.part_most → Takes Bin (O.Bin (Look i))
 
-abbrev TakesIf : Kind → Decoded → Type 0
-TakesIf kind (Fit o) = Takes kind o
-TakesIf kind Unfit = Unit {0}
+abbrev TakesIf : Kind → Option Operation → Type 0
+TakesIf kind (Some o) = Takes kind o
+TakesIf kind None = Unit {0}
 
 takes_if : (kind : Kind) (k : ℕ) (x : ℤ) → TakesIf kind (decode_of kind k x)
 takes_if Account k x =
-    either (TakesIf Account) (eqb k 1) _ _ (ranged (TakesIf Account) (λ n. Fit (O.Account Balance)) Unfit x 0 0 (λ n l h. balance) tt)
-    (either (TakesIf Account) (eqb k 2) _ _ (ranged (TakesIf Account) (λ n. Fit (O.Account (Deposit n))) Unfit x A.amount_least A.amount_most (λ n l h. deposit l h) tt)
-    (either (TakesIf Account) (eqb k 3) _ _ (ranged (TakesIf Account) (λ n. Fit (O.Account (Withdraw n))) Unfit x A.amount_least A.amount_most (λ n l h. withdraw l h) tt) tt))
+    either (TakesIf Account) (eqb k 1) _ _ (ranged (TakesIf Account) (λ n. Some (O.Account Balance)) None x 0 0 (λ n l h. balance) tt)
+    (either (TakesIf Account) (eqb k 2) _ _ (ranged (TakesIf Account) (λ n. Some (O.Account (Deposit n))) None x A.amount_least A.amount_most (λ n l h. deposit l h) tt)
+    (either (TakesIf Account) (eqb k 3) _ _ (ranged (TakesIf Account) (λ n. Some (O.Account (Withdraw n))) None x A.amount_least A.amount_most (λ n l h. withdraw l h) tt) tt))
 takes_if Register k x =
-    either (TakesIf Register) (eqb k 4) _ _ (ranged (TakesIf Register) (λ n. Fit (O.Register Read)) Unfit x 0 0 (λ n l h. read) tt)
-    (either (TakesIf Register) (eqb k 5) _ _ (ranged (TakesIf Register) (λ n. Fit (O.Register (Write n))) Unfit x 0 R.value_most (λ n l h. write h) tt) tt)
+    either (TakesIf Register) (eqb k 4) _ _ (ranged (TakesIf Register) (λ n. Some (O.Register Read)) None x 0 0 (λ n l h. read) tt)
+    (either (TakesIf Register) (eqb k 5) _ _ (ranged (TakesIf Register) (λ n. Some (O.Register (Write n))) None x 0 R.value_most (λ n l h. write h) tt) tt)
 takes_if Counter k x =
-    either (TakesIf Counter) (eqb k 6) _ _ (either_sided (TakesIf Counter) (λ z. Fit (O.Counter (Adjust z))) Unfit x K.adjustment_most (λ h. adjust {z = x} h) tt)
-    (either (TakesIf Counter) (eqb k 7) _ _ (ranged (TakesIf Counter) (λ n. Fit (O.Counter Count)) Unfit x 0 0 (λ n l h. count) tt) tt)
+    either (TakesIf Counter) (eqb k 6) _ _ (either_sided (TakesIf Counter) (λ z. Some (O.Counter (Adjust z))) None x K.adjustment_most (λ h. adjust {z = x} h) tt)
+    (either (TakesIf Counter) (eqb k 7) _ _ (ranged (TakesIf Counter) (λ n. Some (O.Counter Count)) None x 0 0 (λ n l h. count) tt) tt)
 takes_if Bin k x =
-    ranged (TakesIf Bin) (B.operation_on k) Unfit x 0 B.part_most
+    ranged (TakesIf Bin) (B.operation_on k) None x 0 B.part_most
     (λ i l h. either (TakesIf Bin) (eqb k 8) _ _ (put h) (either (TakesIf Bin) (eqb k 9) _ _ (take h) (either (TakesIf Bin) (eqb k 10) _ _ (look h) tt))) tt
 takes_if Unknown k x = tt
 
-pub decoded_takes : (kind : Kind) (k : ℕ) (x : ℤ) (o : Operation) → decode_of kind k x ≡ Fit o → Takes kind o
+pub decoded_takes : (kind : Kind) (k : ℕ) (x : ℤ) (o : Operation) → decode_of kind k x ≡ Some o → Takes kind o
 decoded_takes kind k x o e = rw e at (takes_if kind k x)
 
 -- a deposit or an adjustment that is let through fits, and a part that is has its digit
@@ -107,12 +103,12 @@ takes_room kind (O.Counter o) (S.Bin b) t h = tt
 takes_room kind (O.Bin o) (S.Bin b) t h = part_most_lem t
 
 -- a value in its range is read back
-value_recalled : (v low high : ℤ) → le_z low v ≡ true → le_z v high ≡ true → with_value v low high ≡ Given (Value v)
+value_recalled : (v low high : ℤ) → le_z low v ≡ true → le_z v high ≡ true → with_value v low high ≡ Some (Value v)
 value_recalled v low high l h = rw (l, h)
 
 -- the answer's numbers are read back as that answer
 pub takes_recalled : (kind : Kind) (o : Operation) (s : State) → StateOf kind s → Takes kind o → Bounded s
-    → recall_of o (numbers_of (step_of s o).outcome).a (numbers_of (step_of s o).outcome).b ≡ Given (step_of s o).outcome
+    → recall_of o (numbers_of (step_of s o).outcome).a (numbers_of (step_of s o).outcome).b ≡ Some (step_of s o).outcome
 takes_recalled kind o s (account {n}) balance h = value_recalled (pos n) (pos 0) (pos A.balance_most) (le-leb 0 n (omega arith)) (le-leb n A.balance_most h)
 takes_recalled kind o s account (deposit l m) h = refl
 takes_recalled kind o s (account {n}) (withdraw {n = m} l k) h = ⊎_elim (λ e. rw (le-leb m n e)) (λ e. rw (lt-leb m n e)) (le_or m n)
@@ -154,18 +150,18 @@ grown_has kind i s (aside z k h) l = (counter, omega arith)
 grown_has kind i s (within n k h) l = (bin h, h)
 
 -- an opening has grown by nothing
-abbrev GrownIf : Kind → Opening → Type 0
-GrownIf kind (At s) = Grown kind 0 s
-GrownIf kind Refused = Unit {0}
+abbrev GrownIf : Kind → Option State → Type 0
+GrownIf kind (Some s) = Grown kind 0 s
+GrownIf kind None = Unit {0}
 
 opens_grown : (kind : Kind) (x : ℤ) → GrownIf kind (opened_of kind x)
-opens_grown Account x = ranged (GrownIf Account) (λ n. At (A.account_of n)) Refused x 0 A.opening_most (λ n l h. upto n 0 (omega arith)) tt
-opens_grown Register x = ranged (GrownIf Register) (λ n. At (R.register_of n)) Refused x 0 R.value_most (λ n l h. kept n 0 h) tt
-opens_grown Counter x = either_sided (GrownIf Counter) (λ z. At (K.counter_of z)) Refused x K.opening_most (λ h. aside x 0 (omega arith)) tt
-opens_grown Bin x = ranged (GrownIf Bin) (λ n. At (B.bin_of n)) Refused x 0 B.opening_most (λ n l h. within n 0 h) tt
+opens_grown Account x = ranged (GrownIf Account) (λ n. Some (A.account_of n)) None x 0 A.opening_most (λ n l h. upto n 0 (omega arith)) tt
+opens_grown Register x = ranged (GrownIf Register) (λ n. Some (R.register_of n)) None x 0 R.value_most (λ n l h. kept n 0 h) tt
+opens_grown Counter x = either_sided (GrownIf Counter) (λ z. Some (K.counter_of z)) None x K.opening_most (λ h. aside x 0 (omega arith)) tt
+opens_grown Bin x = ranged (GrownIf Bin) (λ n. Some (B.bin_of n)) None x 0 B.opening_most (λ n l h. within n 0 h) tt
 opens_grown Unknown x = tt
 
-pub opened_grown : (kind : Kind) (x : ℤ) (s : State) → opened_of kind x ≡ At s → Grown kind 0 s
+pub opened_grown : (kind : Kind) (x : ℤ) (s : State) → opened_of kind x ≡ Some s → Grown kind 0 s
 opened_grown kind x s e = rw e at (opens_grown kind x)
 
 pub run_grown : (kind : Kind) (l : List (Op (object_of kind))) (s : State) (k : ℕ) → AllFit kind l → Grown kind k s → Grown kind (k + length l) (run (object_of kind) s l)

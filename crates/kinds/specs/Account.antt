@@ -1,5 +1,5 @@
 -- A, account. Source: document 01, "Objects and numbers" and "The conflict table"; request Q-2.
-use Rattle.std.specs.Prelude.{ℕ, ◌+◌, ◌-◌, ◌<◌, ◌^◌, cond, List, [], ◌∷◌, ℤ, pos, leb, eqb}
+use Rattle.std.specs.Prelude.{ℕ, ◌+◌, ◌-◌, ◌<◌, ◌^◌, cond, List, [], ◌∷◌, ℤ, pos, leb, eqb, Option, Some, None}
 use Rattle.kinds.specs.declared.account.Account.{Account}
 use Rattle.kinds.specs.declared.account.AccountOperation.{AccountOperation}
 use Rattle.kinds.specs.declared.account.AccountOperation.TheVariants.{Balance, Deposit, Withdraw}
@@ -11,15 +11,12 @@ use Rattle.kinds.specs.declared.outcome.Outcome.TheVariants.{Ok, Fail, Value}
 use Rattle.kinds.specs.declared.Stepped.{Stepped}
 use Rattle.kinds.specs.declared.outcome.Shape.{Shape}
 use Rattle.kinds.specs.declared.outcome.Shape.TheVariants.{Done, DoneOrFailed, Between}
-use Rattle.kinds.specs.declared.Opening.{Opening}
-use Rattle.kinds.specs.declared.Opening.TheVariants.{At, Refused}
-use Rattle.kinds.specs.declared.Decoded.{Decoded}
-use Rattle.kinds.specs.declared.Decoded.TheVariants.{Fit, Unfit}
 use Rattle.kinds.specs.declared.table.Class.{Class}
-use Rattle.kinds.specs.declared.table.Class.TheVariants.{Row, None}
 use Rattle.kinds.specs.declared.table.Rule.{Rule}
 use Rattle.kinds.specs.declared.table.Rule.TheVariants.{Pass, Conflict, IfAtLeast, IfAtMost}
 use Rattle.kinds.specs.Range.{in_range}
+use Rattle.kinds.specs.declared.Operation.{Operation}
+use Rattle.kinds.specs.Table.{in_row}
 
 -- the account with this balance
 abbrev pub account_of : ℕ → State
@@ -39,15 +36,15 @@ amount_most = 1_000_000
 abbrev pub balance_most : ℕ
 balance_most = 2_024_000_000
 
-abbrev pub opened_of : ℤ → Opening
-opened_of opening = in_range opening 0 opening_most (λ n. At (account_of n)) Refused
+abbrev pub opened_of : ℤ → Option State
+opened_of opening = in_range opening 0 opening_most (λ n. Some (account_of n)) None
 
 -- 1 balance (argument 0), 2 deposit and 3 withdraw (argument 1 to 1,000,000)
-abbrev pub decode_of : ℕ → ℤ → Decoded
+abbrev pub decode_of : ℕ → ℤ → Option Operation
 decode_of operation argument =
-    cond (eqb operation 1) (in_range argument 0 0 (λ n. Fit (O.Account Balance)) Unfit)
-    (cond (eqb operation 2) (in_range argument amount_least amount_most (λ n. Fit (O.Account (Deposit n))) Unfit)
-    (cond (eqb operation 3) (in_range argument amount_least amount_most (λ n. Fit (O.Account (Withdraw n))) Unfit) Unfit))
+    cond (eqb operation 1) (in_range argument 0 0 (λ n. Some (O.Account Balance)) None)
+    (cond (eqb operation 2) (in_range argument amount_least amount_most (λ n. Some (O.Account (Deposit n))) None)
+    (cond (eqb operation 3) (in_range argument amount_least amount_most (λ n. Some (O.Account (Withdraw n))) None) None))
 
 -- a withdrawal succeeds if the balance is at least the amount; otherwise it answers FAIL and changes nothing
 abbrev pub step_of : Account → AccountOperation → Stepped
@@ -70,15 +67,15 @@ shape_of (Deposit n) = Done
 shape_of (Withdraw n) = DoneOrFailed
 
 -- the row of each class of answer: balance, deposit, withdraw OK, withdraw FAIL; its key is the balance or the amount
-abbrev pub class_of : AccountOperation → Outcome → Class
-class_of Balance (Value v) = Row 0 v
+abbrev pub class_of : AccountOperation → Outcome → Option Class
+class_of Balance (Value v) = in_row 0 v
 class_of Balance Ok = None
 class_of Balance Fail = None
-class_of (Deposit n) Ok = Row 1 (pos n)
+class_of (Deposit n) Ok = in_row 1 (pos n)
 class_of (Deposit n) Fail = None
 class_of (Deposit n) (Value v) = None
-class_of (Withdraw n) Ok = Row 2 (pos n)
-class_of (Withdraw n) Fail = Row 3 (pos n)
+class_of (Withdraw n) Ok = in_row 2 (pos n)
+class_of (Withdraw n) Fail = in_row 3 (pos n)
 class_of (Withdraw n) (Value v) = None
 
 -- request Q-2: balance v and a successful withdrawal of b conflict exactly when v is at least b

@@ -1,5 +1,5 @@
 -- S, bin of serial-numbered parts. Source: request Q-3.
-use Rattle.std.specs.Prelude.{ℕ, zero, suc, ◌+◌, ◌-◌, ◌/◌, ◌%◌, ◌^◌, ◌≤◌, Bool, cond, List, [], ◌∷◌, ℤ, pos, negsuc, eqb}
+use Rattle.std.specs.Prelude.{ℕ, zero, suc, ◌+◌, ◌-◌, ◌/◌, ◌%◌, ◌^◌, ◌≤◌, Bool, cond, List, [], ◌∷◌, ℤ, pos, negsuc, eqb, Option, Some, None}
 use Rattle.kinds.specs.declared.bin.Bin.{Bin}
 use Rattle.kinds.specs.declared.bin.BinOperation.{BinOperation}
 use Rattle.kinds.specs.declared.bin.BinOperation.TheVariants.{Put, Take, Look}
@@ -11,15 +11,12 @@ use Rattle.kinds.specs.declared.outcome.Outcome.TheVariants.{Ok, Fail, Value}
 use Rattle.kinds.specs.declared.Stepped.{Stepped}
 use Rattle.kinds.specs.declared.outcome.Shape.{Shape}
 use Rattle.kinds.specs.declared.outcome.Shape.TheVariants.{DoneOrFailed, Between}
-use Rattle.kinds.specs.declared.Opening.{Opening}
-use Rattle.kinds.specs.declared.Opening.TheVariants.{At, Refused}
-use Rattle.kinds.specs.declared.Decoded.{Decoded}
-use Rattle.kinds.specs.declared.Decoded.TheVariants.{Fit, Unfit}
 use Rattle.kinds.specs.declared.table.Class.{Class}
-use Rattle.kinds.specs.declared.table.Class.TheVariants.{Row, None}
 use Rattle.kinds.specs.declared.table.Rule.{Rule}
 use Rattle.kinds.specs.declared.table.Rule.TheVariants.{Pass, IfEqual}
 use Rattle.kinds.specs.Range.{in_range}
+use Rattle.kinds.specs.declared.Operation.{Operation}
+use Rattle.kinds.specs.Table.{in_row}
 
 -- the bin that has the parts which the binary digits of n say
 abbrev pub bin_of : ℕ → State
@@ -36,16 +33,16 @@ opening_most = 4_294_967_295
 abbrev pub part_most : ℕ
 part_most = 31
 
-abbrev pub opened_of : ℤ → Opening
-opened_of opening = in_range opening 0 opening_most (λ n. At (bin_of n)) Refused
+abbrev pub opened_of : ℤ → Option State
+opened_of opening = in_range opening 0 opening_most (λ n. Some (bin_of n)) None
 
 -- 8 put, 9 take and 10 look, each with a part as its argument
-abbrev pub operation_on : ℕ → ℕ → Decoded
+abbrev pub operation_on : ℕ → ℕ → Option Operation
 operation_on operation i =
-    cond (eqb operation 8) (Fit (O.Bin (Put i))) (cond (eqb operation 9) (Fit (O.Bin (Take i))) (cond (eqb operation 10) (Fit (O.Bin (Look i))) Unfit))
+    cond (eqb operation 8) (Some (O.Bin (Put i))) (cond (eqb operation 9) (Some (O.Bin (Take i))) (cond (eqb operation 10) (Some (O.Bin (Look i))) None))
 
-abbrev pub decode_of : ℕ → ℤ → Decoded
-decode_of operation argument = in_range argument 0 part_most (operation_on operation) Unfit
+abbrev pub decode_of : ℕ → ℤ → Option Operation
+decode_of operation argument = in_range argument 0 part_most (operation_on operation) None
 
 -- a put answers OK if the part was out, and puts it in, and FAIL if it was in; a take the reverse; a look answers 1 if it is in, 0 if it is out
 abbrev pub step_of : Bin → BinOperation → Stepped
@@ -73,15 +70,15 @@ shape_of (Take i) = DoneOrFailed
 shape_of (Look i) = Between (pos 0) (pos 1)
 
 -- the row of each class of answer: the part was out and is put in, was in and is taken out, was in and stays, was out and stays; its key is the part
-abbrev pub class_of : BinOperation → Outcome → Class
-class_of (Put i) Ok = Row 0 (pos i)
-class_of (Put i) Fail = Row 2 (pos i)
+abbrev pub class_of : BinOperation → Outcome → Option Class
+class_of (Put i) Ok = in_row 0 (pos i)
+class_of (Put i) Fail = in_row 2 (pos i)
 class_of (Put i) (Value v) = None
-class_of (Take i) Ok = Row 1 (pos i)
-class_of (Take i) Fail = Row 3 (pos i)
+class_of (Take i) Ok = in_row 1 (pos i)
+class_of (Take i) Fail = in_row 3 (pos i)
 class_of (Take i) (Value v) = None
-class_of (Look i) (Value (pos zero)) = Row 3 (pos i)
-class_of (Look i) (Value (pos (suc zero))) = Row 2 (pos i)
+class_of (Look i) (Value (pos zero)) = in_row 3 (pos i)
+class_of (Look i) (Value (pos (suc zero))) = in_row 2 (pos i)
 class_of (Look i) (Value (pos (suc (suc n)))) = None
 class_of (Look i) (Value (negsuc n)) = None
 class_of (Look i) Ok = None

@@ -1,5 +1,5 @@
 -- The serial objects over all kinds. Source: document 01, "Objects and numbers", "Calls, answers and their order" and "The conflict table"; requests Q-1 to Q-3.
-use Rattle.std.specs.Prelude.{ℕ, ◌≤◌, Bool, true, false, cond, List, [], ℤ, nat_abs, eqb}
+use Rattle.std.specs.Prelude.{ℕ, ◌≤◌, Bool, true, false, cond, List, [], ℤ, nat_abs, eqb, Option, Some, None}
 use Rattle.kinds.specs.declared.Kind.{Kind}
 use Rattle.kinds.specs.declared.Kind.TheVariants.{Account, Register, Counter, Bin, Unknown}
 use Rattle.kinds.specs.declared.State.{State}
@@ -15,13 +15,7 @@ use Rattle.kinds.specs.declared.outcome.Outcome.TheVariants.{Fail}
 use Rattle.kinds.specs.declared.Answered.{Answered}
 use Rattle.kinds.specs.declared.Stepped.{Stepped}
 use Rattle.kinds.specs.declared.outcome.Shape.{Shape}
-use Rattle.kinds.specs.declared.outcome.Recalled.{Recalled}
-use Rattle.kinds.specs.declared.Opening.{Opening}
-use Rattle.kinds.specs.declared.Opening.TheVariants.{At, Refused}
-use Rattle.kinds.specs.declared.Decoded.{Decoded}
-use Rattle.kinds.specs.declared.Decoded.TheVariants.{Unfit}
 use Rattle.kinds.specs.declared.table.Class.{Class}
-use Rattle.kinds.specs.declared.table.Class.TheVariants.{None}
 use Rattle.kinds.specs.declared.table.Rule.{Rule}
 use Rattle.kinds.specs.Outcome.{recalled}
 use Rattle.kinds.specs.Account as A
@@ -35,29 +29,29 @@ unfoldable pub kind_of : ℕ → Kind
 kind_of letter =
     cond (eqb letter 65) Account (cond (eqb letter 82) Register (cond (eqb letter 75) Counter (cond (eqb letter 83) Bin Unknown)))
 
-abbrev pub opened_of : Kind → ℤ → Opening
+abbrev pub opened_of : Kind → ℤ → Option State
 opened_of Account opening = A.opened_of opening
 opened_of Register opening = R.opened_of opening
 opened_of Counter opening = K.opened_of opening
 opened_of Bin opening = B.opened_of opening
-opened_of Unknown opening = Refused
+opened_of Unknown opening = None
 
-abbrev pub opens : Opening → Bool
-opens (At s) = true
-opens Refused = false
+abbrev pub opens : Option State → Bool
+opens (Some s) = true
+opens None = false
 
 -- the state that it opens with; what does not open, which no form allows, counts as an account of 0
-abbrev pub start_of : Opening → State
-start_of (At s) = s
-start_of Refused = A.account_of 0
+abbrev pub start_of : Option State → State
+start_of (Some s) = s
+start_of None = A.account_of 0
 
 -- code 7 where it is not fit: the operation is unknown, not of this kind, or its argument outside its range
-abbrev pub decode_of : Kind → ℕ → ℤ → Decoded
+abbrev pub decode_of : Kind → ℕ → ℤ → Option Operation
 decode_of Account operation argument = A.decode_of operation argument
 decode_of Register operation argument = R.decode_of operation argument
 decode_of Counter operation argument = K.decode_of operation argument
 decode_of Bin operation argument = B.decode_of operation argument
-decode_of Unknown operation argument = Unfit
+decode_of Unknown operation argument = None
 
 -- what f makes of an operation of the kind; of one of another kind, the other
 abbrev pub on_account {ℓ} : {B : Type ℓ} → Operation → B → (AccountOperation → B) → B
@@ -117,11 +111,11 @@ shape_of (O.Counter o) = K.shape_of o
 shape_of (O.Bin o) = B.shape_of o
 
 -- the outcome with these numbers, if its shape is one that the operation allows
-abbrev pub recall_of : Operation → ℕ → ℤ → Recalled
+abbrev pub recall_of : Operation → ℕ → ℤ → Option Outcome
 recall_of o a b = recalled (shape_of o) a b
 
 -- the class of an answer in the table of the kind
-abbrev pub class_of : Kind → Operation → Outcome → Class
+abbrev pub class_of : Kind → Operation → Outcome → Option Class
 class_of Account o r = on_account o None (λ p. A.class_of p r)
 class_of Register o r = on_register o None (λ p. R.class_of p r)
 class_of Counter o r = on_counter o None (λ p. K.class_of p r)

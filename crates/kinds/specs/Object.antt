@@ -1,5 +1,5 @@
 -- Each kind as a serial object of the paper, over all its states. Source: document 01, "The conflict table"; requests Q-1 and Q-3.
-use Rattle.std.specs.Prelude.{◌≡◌, List, [], ◌∷◌, ℕ, ◌+◌, ◌*◌, ◌≤◌, ℤ, nat_abs}
+use Rattle.std.specs.Prelude.{◌≡◌, List, [], ◌∷◌, ℕ, ◌+◌, ◌*◌, ◌≤◌, ℤ, nat_abs, Some}
 use Rattle.theory.specs.Serial.{Serial, Op}
 use Rattle.kinds.specs.declared.Kind.{Kind}
 use Rattle.kinds.specs.declared.Kind.TheVariants.{Account, Register, Counter, Bin}
@@ -7,7 +7,6 @@ use Rattle.kinds.specs.declared.State.{State}
 use Rattle.kinds.specs.declared.Operation.{Operation}
 use Rattle.kinds.specs.declared.outcome.Outcome.{Outcome}
 use Rattle.kinds.specs.declared.Answered.{Answered}
-use Rattle.kinds.specs.declared.Decoded.TheVariants.{Fit}
 use Rattle.kinds.specs.Kinds.{decode_of, step_of}
 use Rattle.kinds.specs.Account as A
 use Rattle.kinds.specs.Register as R
@@ -37,7 +36,7 @@ op_of kind p = record { ask = p.operation; reply = p.outcome }
 
 -- an operation of the kind with its argument in range: one that `decode` lets through
 abbrev pub Fits : Kind → Operation → Type 0
-Fits kind o = (k : ℕ) × (x : ℤ) × (decode_of kind k x ≡ Fit o)
+Fits kind o = (k : ℕ) × (x : ℤ) × (decode_of kind k x ≡ Some o)
 
 abbrev pub AllFit : (kind : Kind) → List (Op (object_of kind)) → Type 0
 AllFit kind [] = Unit {0}

@@ -3,9 +3,9 @@ ghost use Rattle.std.specs.Prelude.{◌≡◌};
 ghost use Rattle.kinds.specs.Account.{opened_of, table};
 ghost use Rattle.kinds.specs.Table.{entry};
 
-use crate::range::{Ranged, within};
-use crate::table::Rule;
-use crate::{Opening, State};
+use crate::State;
+use crate::range::within;
+use crate::table::{Rule, entry_of};
 
 #[derive(Clone, Copy)]
 pub struct Account {
@@ -24,14 +24,14 @@ impl Account {
 
     pub const OPENING_MOST: u32 = 1_000_000_000;
 
-    // The numbers of its operations.
+    // The numbers of its operations, as a call has them.
     pub const BALANCE: u32 = 1;
 
     pub const DEPOSIT: u32 = 2;
 
     pub const WITHDRAW: u32 = 3;
 
-    pub const NO_ARGUMENT: u32 = 0;
+    pub const NO_ARGUMENT: i64 = 0;
 
     pub const AMOUNT_LEAST: u32 = 1;
 
@@ -42,7 +42,7 @@ impl Account {
 
     pub const ANSWER_MOST: i64 = 2_024_000_000;
 
-    // The rows and columns of its table.
+    // The rows and columns of its table: numbers, since any may be asked for.
     pub const BALANCE_ROW: usize = 0;
 
     pub const DEPOSIT_ROW: usize = 1;
@@ -60,23 +60,16 @@ impl Account {
         [Rule::Pass, Rule::Conflict, Rule::Pass, Rule::Pass],
     ];
 
-    pub fn opened(opening: i64) -> Opening
+    pub fn opened(opening: i64) -> Option<State>
         ensures { result ≡ opened_of opening }
     {
-        match within(opening, Account::OPENING_LEAST, Account::OPENING_MOST) {
-            Ranged::In(balance) => Opening::At(State::Account(Account { balance })),
-            Ranged::Out => Opening::Refused,
-        }
+        let balance = within(opening, Account::OPENING_LEAST, Account::OPENING_MOST)?;
+        Some(State::Account(Account { balance }))
     }
 
     pub fn rule_of(row: usize, column: usize) -> Rule
         ensures { result ≡ entry table row column }
     {
-        if row < Account::ROWS {
-            if column < Account::ROWS {
-                return Account::TABLE[row][column];
-            }
-        }
-        Rule::Conflict
+        entry_of(&Account::TABLE, row, column)
     }
 }

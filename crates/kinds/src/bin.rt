@@ -3,9 +3,9 @@ ghost use Rattle.std.specs.Prelude.{◌≡◌};
 ghost use Rattle.kinds.specs.Bin.{opened_of, table};
 ghost use Rattle.kinds.specs.Table.{entry};
 
-use crate::range::{Ranged, within};
-use crate::table::Rule;
-use crate::{Opening, State};
+use crate::State;
+use crate::range::within;
+use crate::table::{Rule, entry_of};
 
 // Its binary digits say which parts are in: that of 2 ^ i, whether part i is.
 #[derive(Clone, Copy)]
@@ -25,7 +25,7 @@ impl Bin {
 
     pub const OPENING_MOST: u32 = 4_294_967_295;
 
-    // The numbers of its operations.
+    // The numbers of its operations, as a call has them.
     pub const PUT: u32 = 8;
 
     pub const TAKE: u32 = 9;
@@ -41,7 +41,7 @@ impl Bin {
 
     pub const IN: i64 = 1;
 
-    // The rows and columns of its table: a part was put in or taken out, or found in or out and left there.
+    // The rows and columns of its table, numbers since any may be asked for: a part was put in or taken out, or found in or out and left there.
     pub const PUT_ROW: usize = 0;
 
     pub const TAKEN_ROW: usize = 1;
@@ -59,23 +59,16 @@ impl Bin {
         [Rule::IfEqual, Rule::Pass, Rule::Pass, Rule::Pass],
     ];
 
-    pub fn opened(opening: i64) -> Opening
+    pub fn opened(opening: i64) -> Option<State>
         ensures { result ≡ opened_of opening }
     {
-        match within(opening, Bin::OPENING_LEAST, Bin::OPENING_MOST) {
-            Ranged::In(parts) => Opening::At(State::Bin(Bin { parts })),
-            Ranged::Out => Opening::Refused,
-        }
+        let parts = within(opening, Bin::OPENING_LEAST, Bin::OPENING_MOST)?;
+        Some(State::Bin(Bin { parts }))
     }
 
     pub fn rule_of(row: usize, column: usize) -> Rule
         ensures { result ≡ entry table row column }
     {
-        if row < Bin::ROWS {
-            if column < Bin::ROWS {
-                return Bin::TABLE[row][column];
-            }
-        }
-        Rule::Conflict
+        entry_of(&Bin::TABLE, row, column)
     }
 }

@@ -3,9 +3,9 @@ ghost use Rattle.std.specs.Prelude.{◌≡◌};
 ghost use Rattle.kinds.specs.Counter.{opened_of, table};
 ghost use Rattle.kinds.specs.Table.{entry};
 
-use crate::range::{SignedRanged, within_signed};
-use crate::table::Rule;
-use crate::{Opening, State};
+use crate::State;
+use crate::range::within_signed;
+use crate::table::{Rule, entry_of};
 
 #[derive(Clone, Copy)]
 pub struct Counter {
@@ -23,12 +23,12 @@ impl Counter {
 
     pub const OPENING_MOST: i32 = 1_000_000_000;
 
-    // The numbers of its operations.
+    // The numbers of its operations, as a call has them.
     pub const ADJUST: u32 = 6;
 
     pub const COUNT: u32 = 7;
 
-    pub const NO_ARGUMENT: u32 = 0;
+    pub const NO_ARGUMENT: i64 = 0;
 
     pub const ADJUSTMENT_LEAST: i32 = -1_000_000;
 
@@ -39,7 +39,7 @@ impl Counter {
 
     pub const ANSWER_MOST: i64 = 2_024_000_000;
 
-    // The rows and columns of its table.
+    // The rows and columns of its table: numbers, since any may be asked for.
     pub const ADJUST_ROW: usize = 0;
 
     pub const COUNT_ROW: usize = 1;
@@ -54,23 +54,16 @@ impl Counter {
     // The key of an answer is what it adds: of an adjustment its argument, of a count nothing.
     pub const COUNT_KEY: i64 = 0;
 
-    pub fn opened(opening: i64) -> Opening
+    pub fn opened(opening: i64) -> Option<State>
         ensures { result ≡ opened_of opening }
     {
-        match within_signed(opening, Counter::OPENING_LEAST, Counter::OPENING_MOST) {
-            SignedRanged::In(count) => Opening::At(State::Counter(Counter { count })),
-            SignedRanged::Out => Opening::Refused,
-        }
+        let count = within_signed(opening, Counter::OPENING_LEAST, Counter::OPENING_MOST)?;
+        Some(State::Counter(Counter { count }))
     }
 
     pub fn rule_of(row: usize, column: usize) -> Rule
         ensures { result ≡ entry table row column }
     {
-        if row < Counter::ROWS {
-            if column < Counter::ROWS {
-                return Counter::TABLE[row][column];
-            }
-        }
-        Rule::Conflict
+        entry_of(&Counter::TABLE, row, column)
     }
 }

@@ -13,10 +13,11 @@ mod table;
 pub use account::{Account, AccountOperation};
 pub use bin::{Bin, BinOperation};
 pub use counter::{Counter, CounterOperation};
-pub use outcome::{Numbers, Outcome, Recalled, Shape, numbers_of};
+pub use outcome::{Numbers, Outcome, Shape};
 pub use register::{Register, RegisterOperation};
 pub use table::{Class, Rule};
 
+// Unknown is a kind too: it opens with nothing, takes nothing, and conflicts with everything. So what is said of kinds is said of every letter.
 #[derive(Clone, Copy)]
 pub enum Kind {
     Account,
@@ -47,20 +48,6 @@ pub enum State {
 pub struct Answered {
     pub operation: Operation,
     pub outcome: Outcome,
-}
-
-// The state that an object opens with.
-#[derive(Clone, Copy)]
-pub enum Opening {
-    At(State),
-    Refused,
-}
-
-// An operation that fits its kind, or code 7.
-#[derive(Clone, Copy)]
-pub enum Decoded {
-    Fit(Operation),
-    Unfit,
 }
 
 #[derive(Clone, Copy)]

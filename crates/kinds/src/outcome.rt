@@ -2,8 +2,6 @@
 ghost use Rattle.std.specs.Prelude.{◌≡◌};
 ghost use Rattle.kinds.specs.Outcome.{numbers_of, with_value, without_value, recalled};
 
-use crate::range::{Ranged, within};
-
 #[derive(Clone, Copy)]
 pub enum Outcome {
     Ok,
@@ -27,7 +25,7 @@ impl Numbers {
     pub const VALUE: u32 = 2;
 
     // The b of an outcome that has no value.
-    pub const NO_VALUE: u32 = 0;
+    pub const NO_VALUE: i64 = 0;
 }
 
 // The results that an operation allows.
@@ -39,74 +37,43 @@ pub enum Shape {
     Between(i64, i64),
 }
 
-// The outcome that a and b stand for, where the operation allows it.
-#[derive(Clone, Copy)]
-pub enum Recalled {
-    Given(Outcome),
-    Unshaped,
-}
+impl From<Outcome> for Numbers {
+    ghost from_gives = { λ outcome numbers. numbers ≡ numbers_of outcome };
 
-pub fn numbers_of(outcome: Outcome) -> Numbers
-    ensures { result ≡ numbers_of outcome }
-{
-    match outcome {
-        Outcome::Ok => Numbers {
-            a: Numbers::OK,
-            b: Numbers::NO_VALUE as i64,
-        },
-        Outcome::Fail => Numbers {
-            a: Numbers::FAIL,
-            b: Numbers::NO_VALUE as i64,
-        },
-        Outcome::Value(v) => Numbers {
-            a: Numbers::VALUE,
-            b: v,
-        },
+    fn from(outcome: Outcome) -> Numbers {
+        let (a, b) = match outcome {
+            Outcome::Ok => (Numbers::OK, Numbers::NO_VALUE),
+            Outcome::Fail => (Numbers::FAIL, Numbers::NO_VALUE),
+            Outcome::Value(v) => (Numbers::VALUE, v),
+        };
+        Numbers { a, b }
     }
 }
 
 // A value from low to high, as an outcome.
-fn with_value(b: i64, low: i64, high: i64) -> Recalled
+fn with_value(b: i64, low: i64, high: i64) -> Option<Outcome>
     ensures { result ≡ with_value b low high }
 {
-    if b < low {
-        return Recalled::Unshaped;
-    }
-    if high < b {
-        return Recalled::Unshaped;
-    }
-    Recalled::Given(Outcome::Value(b))
+    (low..=high).contains(&b).then_some(Outcome::Value(b))
 }
 
 // An outcome that has no value: b is 0.
-fn without_value(outcome: Outcome, b: i64) -> Recalled
+fn without_value(outcome: Outcome, b: i64) -> Option<Outcome>
     ensures { result ≡ without_value outcome b }
 {
-    match within(b, Numbers::NO_VALUE, Numbers::NO_VALUE) {
-        Ranged::In(_) => Recalled::Given(outcome),
-        Ranged::Out => Recalled::Unshaped,
-    }
+    (b == Numbers::NO_VALUE).then_some(outcome)
 }
 
 impl Shape {
     // The outcome with these numbers, where it is of this shape.
-    pub fn recall(self, a: u32, b: i64) -> Recalled
+    pub fn recall(self, a: u32, b: i64) -> Option<Outcome>
         ensures { result ≡ recalled self a b }
     {
-        match self {
-            Shape::Done => match a {
-                Numbers::OK => without_value(Outcome::Ok, b),
-                _ => Recalled::Unshaped,
-            },
-            Shape::DoneOrFailed => match a {
-                Numbers::OK => without_value(Outcome::Ok, b),
-                Numbers::FAIL => without_value(Outcome::Fail, b),
-                _ => Recalled::Unshaped,
-            },
-            Shape::Between(low, high) => match a {
-                Numbers::VALUE => with_value(b, low, high),
-                _ => Recalled::Unshaped,
-            },
+        match (self, a) {
+            (Shape::Done | Shape::DoneOrFailed, Numbers::OK) => without_value(Outcome::Ok, b),
+            (Shape::DoneOrFailed, Numbers::FAIL) => without_value(Outcome::Fail, b),
+            (Shape::Between(low, high), Numbers::VALUE) => with_value(b, low, high),
+            _ => None,
         }
     }
 }

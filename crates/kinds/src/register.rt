@@ -3,9 +3,9 @@ ghost use Rattle.std.specs.Prelude.{◌≡◌};
 ghost use Rattle.kinds.specs.Register.{opened_of, table};
 ghost use Rattle.kinds.specs.Table.{entry};
 
-use crate::range::{Ranged, within};
-use crate::table::Rule;
-use crate::{Opening, State};
+use crate::State;
+use crate::range::within;
+use crate::table::{Rule, entry_of};
 
 #[derive(Clone, Copy)]
 pub struct Register {
@@ -19,19 +19,19 @@ pub enum RegisterOperation {
 }
 
 impl Register {
-    // The numbers of its operations.
+    // The numbers of its operations, as a call has them.
     pub const READ: u32 = 4;
 
     pub const WRITE: u32 = 5;
 
-    pub const NO_ARGUMENT: u32 = 0;
+    pub const NO_ARGUMENT: i64 = 0;
 
     // What it opens with, what is written and what is read.
     pub const VALUE_LEAST: u32 = 0;
 
     pub const VALUE_MOST: u32 = 1_000_000_000;
 
-    // The rows and columns of its table.
+    // The rows and columns of its table: numbers, since any may be asked for.
     pub const READ_ROW: usize = 0;
 
     pub const WRITE_ROW: usize = 1;
@@ -43,23 +43,16 @@ impl Register {
         [Rule::UnlessEqual, Rule::UnlessEqual],
     ];
 
-    pub fn opened(opening: i64) -> Opening
+    pub fn opened(opening: i64) -> Option<State>
         ensures { result ≡ opened_of opening }
     {
-        match within(opening, Register::VALUE_LEAST, Register::VALUE_MOST) {
-            Ranged::In(value) => Opening::At(State::Register(Register { value })),
-            Ranged::Out => Opening::Refused,
-        }
+        let value = within(opening, Register::VALUE_LEAST, Register::VALUE_MOST)?;
+        Some(State::Register(Register { value }))
     }
 
     pub fn rule_of(row: usize, column: usize) -> Rule
         ensures { result ≡ entry table row column }
     {
-        if row < Register::ROWS {
-            if column < Register::ROWS {
-                return Register::TABLE[row][column];
-            }
-        }
-        Rule::Conflict
+        entry_of(&Register::TABLE, row, column)
     }
 }

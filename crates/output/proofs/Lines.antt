@@ -1,20 +1,20 @@
 -- What is printed: by calls as they are read from their lines, by an opening, on a file.
-use Prim.Native.Nat.{ℕ, ◌-◌, ◌≤◌, ◌<◌}
+use Prim.Native.Nat.{ℕ, ◌+◌, ◌≤◌, ◌<◌}
 use mathlib.Core.Path.{◌≡◌, refl, ap}
 use mathlib.Core.List.{List, [], ◌∷◌, ◌++◌, map, append-nil}
 use native.Mathlib.Omega.{arith}
 use lib.IntN.{pos}
 use borrow.Author.Tests.{eq-eqb, ne_eqb}
 use Rattle.text.specs.Text.{answer_text, codes_below}
-use Rattle.written.specs.Written.{Object, Contents, joined}
+use Rattle.std.specs.Prelude.{Some, None, Ok, Err}
+use Rattle.written.specs.Written.{Contents, joined}
 use Rattle.written.specs.Items.{items_from}
 use Rattle.written.specs.Line.{call_at}
-use Rattle.written.specs.Check.{call_read, call_item, check_of}
-use Rattle.written.specs.File.{good, bad, objects_in, calls_in, file_of}
+use Rattle.written.specs.Check.{check_of}
+use Rattle.written.specs.File.{objects_in, calls_in, file_of}
+use Rattle.written.specs.declared.Object.{Object}
 use Rattle.written.specs.declared.Call.{Call}
-use Rattle.written.specs.declared.CallLine.TheVariants as L
 use Rattle.written.specs.declared.Layout.{Layout}
-use Rattle.written.specs.declared.Check.TheVariants.{Good, Bad}
 use Rattle.written.proofs.Items.{items_done, items_wrong, items_more}
 use Rattle.store.specs.declared.Store.{Store}
 use Rattle.store.specs.declared.Reply.{Reply}
@@ -28,7 +28,7 @@ printed store calls = joined line_of (answers_to store (map call_of calls))
 
 -- the same, with the calls of n lines from a place
 abbrev pub printed_from : Store → List ℕ → ℕ → ℕ → List ℕ
-printed_from store file n at = printed store (items_from (call_item file) n at)
+printed_from store file n at = printed store (items_from (call_at file) n at)
 
 -- a code fits its place in a line
 pub code_low : (store : Store) (call : Call) (r : Reply) → r ≡ reply_to store (call_of call) → r.answer.code < codes_below
@@ -45,15 +45,15 @@ module _ (store : Store) where
 
   module _ (file : List ℕ) (n at : ℕ) where
     pub printed_done : n ≤ 0 → printed_from store file n at ≡ []
-    printed_done h = rw (items_done (call_item file) n at h) printed_none
+    printed_done h = rw (items_done (call_at file) n at h) printed_none
 
-    pub printed_wrong : call_at file at ≡ L.Wrong → printed_from store file n at ≡ []
-    printed_wrong e = rw (items_wrong (call_item file) n at (ap call_read e)) printed_none
+    pub printed_wrong : call_at file at ≡ None → printed_from store file n at ≡ []
+    printed_wrong e = rw (items_wrong (call_at file) n at e) printed_none
 
-    pub printed_more : (c : Call) (next : ℕ) (r : Reply) → 0 < n → call_at file at ≡ L.Call c next → r ≡ reply_to store (call_of c)
-        → printed_from store file n at ≡ line_of r.answer ++ printed_from r.store file (n - 1) next
-    printed_more c next r h e d =
-        rw (items_more (call_item file) n at c next h (ap call_read e)) (printed_first c (items_from (call_item file) (n - 1) next) r d)
+    pub printed_more : (m : ℕ) (c : Call) (next : ℕ) (r : Reply) → n ≡ m + 1 → call_at file at ≡ Some (c, next) → r ≡ reply_to store (call_of c)
+        → printed_from store file n at ≡ line_of r.answer ++ printed_from r.store file m next
+    printed_more m c next r h e d =
+        rw (items_more (call_at file) n m at c next h e) (printed_first c (items_from (call_at file) m next) r d)
 
 -- what the opening prints, and the calls after it if it was done
 module _ (opened r : Reply) (calls : List Call) (e : r ≡ opened) where
@@ -68,20 +68,20 @@ opened_low objects r e =
     omega (arith, ap (λ (x : Reply). x.answer.code) e, open_code_most (map (λ o. o.letter) objects) (map (λ o. o.opening) objects))
 
 module _ (s : List ℕ) where
-  pub output_line : (line : ℕ) → file_of s ≡ bad line → output_of s ≡ answer_text 16 line (pos 0)
+  pub output_line : (line : ℕ) → file_of s ≡ Err (record { line = line }) → output_of s ≡ answer_text 16 line (pos 0)
   unfolding output_of
   output_line line e = rw e (append-nil (answer_text 16 line (pos 0)))
 
-  pub output_answers : (contents : Contents) → file_of s ≡ good contents
+  pub output_answers : (contents : Contents) → file_of s ≡ Ok contents
       → output_of s ≡ joined line_of (answers_from (opened_with contents.objects) contents.calls)
   unfolding output_of
   output_answers contents e = rw e
 
-  pub output_bad : (line : ℕ) → check_of s ≡ Bad line → output_of s ≡ answer_text 16 line (pos 0)
+  pub output_bad : (line : ℕ) → check_of s ≡ Err (record { line = line }) → output_of s ≡ answer_text 16 line (pos 0)
   unfolding file_of
   output_bad line e = output_line line (rw e)
 
-  pub output_good : (layout : Layout) → check_of s ≡ Good layout
+  pub output_good : (layout : Layout) → check_of s ≡ Ok layout
       → output_of s ≡ joined line_of (answers_from (opened_with (objects_in s layout)) (calls_in s layout))
   unfolding file_of
   output_good layout e = output_answers (record { objects = objects_in s layout; calls = calls_in s layout }) (rw e)

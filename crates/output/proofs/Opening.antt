@@ -3,7 +3,7 @@ use Prim.Native.Nat.{ℕ, zero, suc, ◌≤◌, ◌<◌}
 use mathlib.Core.Path.{◌≡◌, refl, sym, ◌∙◌}
 use mathlib.Core.Logic.Iff
 use mathlib.Core.Logic.{◌↔◌, ⊎_elim}
-use mathlib.Core.Bool.{true, false, false≢true}
+use mathlib.Core.Bool.{true, false≢true}
 use mathlib.Core.List.{List, [], ◌∷◌, ◌++◌, map}
 use native.Mathlib.Omega.{arith}
 use lib.ListN.{length, get_or, length-map, get_or-map}
@@ -11,7 +11,8 @@ use lib.IntN.{ℤ, pos}
 use Rattle.below.proofs.Tests.{le_or, not_so}
 use Rattle.below.proofs.Search.{all_at, all_of}
 use Rattle.text.specs.Text.{answer_text}
-use Rattle.written.specs.Written.{objects_most, Object, joined, Each}
+use Rattle.written.specs.Written.{objects_most, joined, Each}
+use Rattle.written.specs.declared.Object.{Object}
 use Rattle.written.specs.declared.Call.{Call}
 use Rattle.refusal.specs.Open.{opens_at, openable}
 use Rattle.store.specs.Open.{empty_store, open_of}
@@ -86,6 +87,5 @@ module _ (objects : List Object) where
       pub opening_refused : (Opens objects → ⊥) → joined line_of (answers_from (opened_with objects) calls) ≡ answer_text 14 0 (pos 0)
       opening_refused shut =
           opened_only (opened_with objects) (reply_of empty_store (answer_of 14 0 (pos 0))) calls
-          (open_refused (letters objects) (openings objects) false
-          (sym (not_so (openable (letters objects) (openings objects)) (λ e. shut (opens_exactly.0 e)))) refl)
+          (open_refused (letters objects) (openings objects) (not_so (openable (letters objects) (openings objects)) (λ e. shut (opens_exactly.0 e))))
           (λ z. omega arith)

@@ -9,8 +9,10 @@ use lib.ListN.{length, length-append}
 use borrow.Author.Tests.{ne_eqb}
 use Rattle.below.proofs.Tests.{bool_or, le_or}
 use Rattle.kinds.specs.Kinds.{kind_of}
-use Rattle.written.specs.Written.{bytes_most, joined, KindLetter}
-use Rattle.written.specs.File.{File, good, bad, file_of}
+use Rattle.std.specs.Prelude.{Result, Ok, Err}
+use Rattle.written.specs.Written.{bytes_most, Contents, joined, KindLetter}
+use Rattle.written.specs.File.{file_of}
+use Rattle.written.specs.declared.WrongLine.{WrongLine}
 use Rattle.written.proofs.Letters.{kind_each, kind_among}
 use Rattle.written.proofs.Reading.{read_exactly, first_wrong, too_long_lem}
 use Rattle.refusal.specs.declared.Answer.{Answer}
@@ -35,22 +37,22 @@ module _ (s : List ℕ) where
       as_output : {out : List ℕ} → Prints s out → Prints s (output_of s)
       as_output {out} p = rw (prints_output out p) p
 
-      told : length s ≤ bytes_most → (f : File) → file_of s ≡ f → Prints s (output_of s)
-      told h (good contents) e =
+      told : length s ≤ bytes_most → (f : Result Contents WrongLine) → file_of s ≡ f → Prints s (output_of s)
+      told h (Ok contents) e =
           let run = (read_exactly s h contents).0 e in
           let exactly = opens_exactly contents.objects run.few_objects in
           ⊎_elim (λ t. as_output (answers h contents run (exactly.0 t)))
           (λ f. as_output (refused h contents run (λ o. false≢true (sym f ∙ exactly.1 o))))
           (bool_or (openable (letters contents.objects) (openings contents.objects)))
-      told h (bad line) e = as_output (wrong h line ((first_wrong s h line).0 e))
+      told h (Err w) e = as_output (wrong h w.line ((first_wrong s h w.line).0 e))
 
 some_joined : (answers : List Answer) → 1 ≤ length answers → 1 ≤ length (joined line_of answers)
 some_joined [] h = absurd (omega arith)
 some_joined (a ∷ rest) h = simp length-append (omega arith)
 
-some_answer : (f : File) → 1 ≤ length (answers_of f)
-some_answer (good contents) = omega arith
-some_answer (bad line) = omega arith
+some_answer : (f : Result Contents WrongLine) → 1 ≤ length (answers_of f)
+some_answer (Ok contents) = omega arith
+some_answer (Err w) = omega arith
 
 -- some line is printed on every file: to a caller from C, 0 says that its buffer was refused
 pub prints_some : (s : List ℕ) → 1 ≤ length (output_of s)

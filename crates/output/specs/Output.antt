@@ -1,9 +1,11 @@
 -- What the runner prints. Source: document 01, "The run file and its program": code, a and b for the opening and then for each call; a refused opening prints
 -- only its line; a file that breaks the rules prints only 16, its line and 0.
-use Rattle.std.specs.Prelude.{ℕ, ◌+◌, ◌*◌, ◌≤◌, ◌<◌, ◌≡◌, true, cond, List, [], ◌∷◌, ◌++◌, map, length, pos, eqb}
+use Rattle.std.specs.Prelude.{ℕ, ◌+◌, ◌*◌, ◌≤◌, ◌<◌, ◌≡◌, true, cond, List, [], ◌∷◌, ◌++◌, map, length, pos, eqb, Result, Ok, Err}
 use Rattle.text.specs.Text.{answer_text, answer_most}
-use Rattle.written.specs.Written.{bytes_most, calls_most, Object, Contents, joined, Each, RunFile, IsRunFile, FirstWrong}
-use Rattle.written.specs.File.{File, good, bad, file_of}
+use Rattle.written.specs.Written.{bytes_most, calls_most, Contents, joined, Each, RunFile, IsRunFile, FirstWrong}
+use Rattle.written.specs.File.{file_of}
+use Rattle.written.specs.declared.Object.{Object}
+use Rattle.written.specs.declared.WrongLine.{WrongLine}
 use Rattle.written.specs.declared.Call as L
 use Rattle.written.specs.declared.Call.TheVariants.{Plain, Access, Respond, Commit, Abort}
 use Rattle.kinds.specs.Kinds.{kind_of, opened_of, opens}
@@ -32,9 +34,9 @@ opened_with objects = open_of (map (λ o. o.letter) objects) (map (λ o. o.openi
 abbrev pub answers_from : Reply → List L.Call → List Answer
 answers_from opened calls = opened.answer ∷ cond (eqb opened.answer.code 0) (answers_to opened.store (map call_of calls)) []
 
-abbrev pub answers_of : File → List Answer
-answers_of (good contents) = answers_from (opened_with contents.objects) contents.calls
-answers_of (bad line) = answer_of 16 line (pos 0) ∷ []
+abbrev pub answers_of : Result Contents WrongLine → List Answer
+answers_of (Ok contents) = answers_from (opened_with contents.objects) contents.calls
+answers_of (Err wrong) = answer_of 16 wrong.line (pos 0) ∷ []
 
 abbrev pub line_of : Answer → List ℕ
 line_of answer = answer_text answer.code answer.a answer.b

@@ -1,43 +1,19 @@
-// Where the parts of a record stand. The store's fields follow each other in the order of its declaration, and the call follows the store.
-use columns::order::PLACES;
+// How many bytes there are of what is read and written.
+use columns::lists::PLACES;
+use columns::objects::OBJECTS;
 use columns::tree::ROWS;
-use form::OBJECTS;
 
-pub(crate) const KIND: usize = 8;
+// A store: three counts, and columns whose entries have 1, 2 or 8 bytes.
+const STORE: usize = 3 * 8 + (1 + 8) * OBJECTS + (4 + 3 * 2 + 2 * 8) * ROWS + 2 * PLACES;
 
-pub(crate) const OPENING: usize = KIND + OBJECTS;
+// A call: its letter in a run file, three numbers of 32 bits and an argument of 64.
+pub(crate) const CALL: usize = 1 + 3 * 4 + 8;
 
-pub(crate) const COUNT: usize = OPENING + 8 * OBJECTS;
+// A store and a call on it.
+pub(crate) const RECORD: usize = STORE + CALL;
 
-pub(crate) const PARENT: usize = COUNT + 8;
-
-pub(crate) const STATE: usize = PARENT + 2 * ROWS;
-
-pub(crate) const OBJECT: usize = STATE + ROWS;
-
-pub(crate) const OPERATION: usize = OBJECT + ROWS;
-
-pub(crate) const ARGUMENT: usize = OPERATION + ROWS;
-
-pub(crate) const OUTCOME: usize = ARGUMENT + 8 * ROWS;
-
-pub(crate) const VALUE: usize = OUTCOME + ROWS;
-
-pub(crate) const LISTED: usize = VALUE + 8 * ROWS;
-
-pub(crate) const ORDER: usize = LISTED + 8;
-
-pub(crate) const HOLDER: usize = ORDER + 2 * PLACES;
-
-pub(crate) const PLACE: usize = HOLDER + 2 * ROWS;
-
-pub(crate) const STORE: usize = PLACE + 2 * ROWS;
-
-// A store and a call: its letter in a run file, three numbers and an argument, in 1, 3 times 4 and 8 bytes.
-pub(crate) const RECORD: usize = STORE + 21;
-
-// Code, a and b, in 4, 4 and 8 bytes.
-pub(crate) const ANSWER: usize = 16;
+// An answer: its code, a and b.
+pub(crate) const ANSWER: usize = 4 + 4 + 8;
 
 // An answer and a store.
 pub(crate) const REPLY: usize = ANSWER + STORE;

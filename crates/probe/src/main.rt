@@ -3,16 +3,13 @@
 #![tactic(auto)]
 
 mod layout;
+mod number;
 mod reading;
 mod writing;
 
 use crate::layout::{RECORD, REPLY};
 use input::read_full;
 use std::io::{self, Write};
-
-fn send(rt: &impl Print, reply: &[u8; REPLY]) -> io::Result<()> {
-    io::writer(rt).write_all(reply)
-}
 
 // Whether a whole record came, to which the reply has gone.
 fn answer_one(rt: &HostRuntime) -> io::Result<bool> {
@@ -22,8 +19,8 @@ fn answer_one(rt: &HostRuntime) -> io::Result<bool> {
         return Ok(false);
     }
     let mut out = [0u8; REPLY];
-    writing::put_reply(&mut out, reading::reply_to(&bytes));
-    send(rt, &out)?;
+    writing::put_reply(&mut out, &reading::reply_to(&bytes));
+    io::writer(rt).write_all(&out)?;
     Ok(true)
 }
 

@@ -1,17 +1,19 @@
 -- The order of refusals: how a function goes through it, and what its code says.
-use Prim.Native.Nat.{ℕ, zero, suc, ◌<◌}
+use Prim.Native.Nat.{ℕ, zero, suc, ◌<◌, ◌≤◌}
 use mathlib.Core.Path.{◌≡◌, refl, sym, ◌∙◌}
-use mathlib.Core.Bool.{Bool, true, false, cond, ◌&&◌, not, and-eq-true_iff}
+use mathlib.Core.Bool.{Bool, true, false, ◌&&◌, not, and-eq-true_iff}
 use mathlib.Core.Logic.{◌⊎◌, inl, inr, ⊎_elim}
-use mathlib.Core.List.{List, [], ◌∷◌, ◌++◌}
+use mathlib.Core.List.{List, [], ◌∷◌}
 use native.Mathlib.Omega.{arith}
 use lib.IntN.{pos}
 use lib.ListN.{length}
 use lib.Dec.{eqb}
-use borrow.Author.Tests.{eqb-false, not-true}
+use borrow.Author.Tests.{eqb-false, ltb-false, not-true}
 use Rattle.below.proofs.Tests.{bool_or}
 use Rattle.refusal.specs.Refusal.{Refusal, answer_of}
-use Rattle.refusal.specs.Order.{first_code}
+use Rattle.columns.specs.Column.{rows_most}
+use Rattle.form.specs.Form.{count_most}
+use Rattle.refusal.specs.Order.{first_code, unknown}
 use Rattle.refusal.specs.Exact.{codes_of, nth, FirstToHold, NoneHolds}
 
 -- of codes, none stands twice and none is 0
@@ -61,14 +63,6 @@ module _ (r : Refusal) (rest : List Refusal) where
   unfolding first_code
   code_next c e q = rw e q
 
-pub code_none : 0 ≡ first_code []
-unfolding first_code
-code_none = refl
-
-pub code_last : (r : Refusal) (b : Bool) (c : ℕ) → b ≡ r.when → c ≡ cond b r.answer.code 0 → c ≡ first_code (r ∷ [])
-unfolding first_code
-code_last r b c e q = rw (← e) q
-
 -- where it is 0, none holds
 pub none_first : (l : List Refusal) → distinct (codes_of l) ≡ true → first_code l ≡ 0 → NoneHolds l
 unfolding first_code
@@ -83,15 +77,6 @@ abbrev pub Plainly : List Refusal → Type 0
 Plainly [] = Unit {0}
 Plainly (r ∷ rest) = (r.answer ≡ answer_of r.answer.code 0 (pos 0)) × Plainly rest
 
--- an order of refusals that is decided in parts
-module _ (m : List Refusal) where
-  pub code_stop : (l : List Refusal) (c : ℕ) → c ≡ first_code l → (c ≡ 0 → ⊥) → c ≡ first_code (l ++ m)
-  unfolding first_code
-  code_stop [] c e n = absurd (n e)
-  code_stop (r ∷ l) c e n =
-      ⊎_elim (λ t. e ∙ sym (code_here r l t) ∙ code_here r (l ++ m) t)
-      (λ f. code_next r (l ++ m) c f (code_stop l c (e ∙ sym (code_next r l _ f refl)) n)) (bool_or r.when)
-
-  pub code_pass : (l : List Refusal) (c : ℕ) → NoneHolds l → c ≡ first_code m → c ≡ first_code (l ++ m)
-  code_pass [] c n e = e
-  code_pass (r ∷ l) c n e = code_next r (l ++ m) c (n 0 (omega arith)) (code_pass l c (λ i h. n (suc i) (omega arith)) e)
+-- the number of a transaction that there is, is that of a row
+pub known_row : (count t : ℕ) → 0 ≡ first_code (unknown count t) → count ≤ count_most → t < rows_most
+known_row count t z l = omega (arith, ltb-false count t (none_first (unknown count t) refl (sym z) 0 (omega arith)))

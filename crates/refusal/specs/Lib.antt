@@ -1,4 +1,5 @@
 pub mod Refusal
+pub mod Reason
 pub mod Exact
 pub mod Create
 pub mod Open

@@ -3,40 +3,33 @@ ghost use Rattle.std.specs.Prelude.{◌≡◌, true, ◌<◌, ◌≤◌, pos};
 ghost use Rattle.columns.specs.Column.{rows_most};
 ghost use Rattle.form.specs.Form.{count_most};
 ghost use Rattle.refusal.specs.Refusal.{answer_of};
+ghost use Rattle.refusal.specs.Reason.{code_in};
 ghost use Rattle.refusal.specs.Order.{first_code, Rooted, ask_order};
 
 use crate::Answer;
-use crate::row::{inactive_code, unknown_code};
-use columns::tree::ROWS;
+use crate::reason::Reason;
+use crate::row::{check_active, check_known};
+use columns::accesses::Accesses;
+use columns::tree::Tree;
 
 // Every refusal but the wait. `fine` is whether the store is in form.
-pub fn ask_code<'a>(
-    fine: bool,
-    count: usize,
-    parent: &'a [u16; ROWS],
-    state: &'a [u8; ROWS],
-    operation: &'a [u8; ROWS],
-    outcome: &'a [u8; ROWS],
-    t: usize,
-) -> u32
-    requires { fine ≡ true → (count ≤ count_most) × Rooted parent.now }
-    ensures { result ≡ first_code (ask_order fine count parent.now state.now operation.now outcome.now t) }
+#[tactic(auto, using(crate::proofs::Order::known_row, crate::proofs::Codes::code_some), unfolding(crate::specs::Order::first_code))]
+pub fn check_ask(fine: bool, tree: &Tree, accesses: &Accesses, t: usize) -> Result<(), Reason>
+    requires { fine ≡ true → (tree.now.count ≤ count_most) × Rooted tree.now.parent }
+    ensures { code_in result ≡ first_code (ask_order fine tree.now.count tree.now.parent tree.now.state accesses.now.operation accesses.now.outcome t) }
 {
     if !fine {
-        return 15;
+        return Err(Reason::Malformed);
     }
-    let unknown = unknown_code(count, t);
-    if unknown != 0 {
-        return unknown;
+    check_known(tree, t)?;
+    if accesses.operation[t] == 0 {
+        return Err(Reason::NoAccess);
     }
-    if operation[t] == 0 {
-        return 9;
+    check_active(tree, t)?;
+    if accesses.outcome[t] != 0 {
+        return Err(Reason::Answered);
     }
-    let inactive = inactive_code(parent, state, t);
-    if inactive != 0 {
-        return inactive;
-    }
-    if outcome[t] == 0 { 0 } else { 10 }
+    Ok(())
 }
 
 // 13: the holder and the access.

@@ -1,75 +1,70 @@
 // Create.
 ghost use Rattle.std.specs.Prelude.{◌≡◌, true, ◌≤◌};
 ghost use Rattle.form.specs.Form.{objects_most, count_most};
+ghost use Rattle.refusal.specs.Reason.{code_in};
 ghost use Rattle.refusal.specs.Order.{first_code, Rooted, unasked, create_order};
 ghost use Rattle.refusal.specs.declared.Child.TheVariants.{Access};
 
-use crate::row::inactive_code;
+use crate::reason::Reason;
+use crate::row::check_active;
 use crate::{Child, Request};
-use columns::tree::ROWS;
-use form::{COUNT_MOST, OBJECTS};
-use kinds::Decoded;
+use columns::accesses::Accesses;
+use columns::objects::Objects;
+use columns::tree::Tree;
+use form::COUNT_MOST;
 
-fn request_code(objects: usize, kind: &[u8; OBJECTS], request: Request) -> u32
-    requires { objects ≤ objects_most }
-    ensures { result ≡ first_code (unasked objects kind.now (Access request)) }
+#[tactic(auto, unfolding(crate::specs::Order::first_code))]
+fn check_request(objects: &Objects, request: Request) -> Result<(), Reason>
+    requires { objects.now.count ≤ objects_most }
+    ensures { code_in result ≡ first_code (unasked objects.now.count objects.now.kind (Access request)) }
 {
     let object = request.object as usize;
-    if objects <= object {
-        return 6;
+    if objects.count <= object {
+        return Err(Reason::NoObject);
     }
-    match serial::decode(
-        serial::kind_of(kind[object]),
-        request.operation,
-        request.argument,
-    ) {
-        Decoded::Fit(_) => 0,
-        Decoded::Unfit => 7,
-    }
+    let kind = serial::kind_of(objects.kind[object]);
+    serial::decode(kind, request.operation, request.argument).ok_or(Reason::Unfit)?;
+    Ok(())
 }
 
-// 6: no such object. 7: what it asks does not fit. Never for a plain transaction.
-fn child_code(objects: usize, kind: &[u8; OBJECTS], child: Child) -> u32
-    requires { objects ≤ objects_most }
-    ensures { result ≡ first_code (unasked objects kind.now child) }
+// A plain transaction asks nothing of an object.
+#[tactic(auto, unfolding(crate::specs::Order::first_code))]
+fn check_child(objects: &Objects, child: Child) -> Result<(), Reason>
+    requires { objects.now.count ≤ objects_most }
+    ensures { code_in result ≡ first_code (unasked objects.now.count objects.now.kind child) }
 {
     match child {
-        Child::Plain => 0,
-        Child::Access(request) => request_code(objects, kind, request),
+        Child::Plain => Ok(()),
+        Child::Access(request) => check_request(objects, request),
     }
 }
 
 // `fine` is whether the store is in form.
-pub fn create_code<'a>(
+#[tactic(auto, using(crate::proofs::Codes::code_some), unfolding(crate::specs::Order::first_code))]
+pub fn check_create(
     fine: bool,
-    count: usize,
-    parent: &'a [u16; ROWS],
-    state: &'a [u8; ROWS],
-    operation: &'a [u8; ROWS],
-    objects: usize,
-    kind: &'a [u8; OBJECTS],
+    objects: &Objects,
+    tree: &Tree,
+    accesses: &Accesses,
     p: usize,
     child: Child,
-) -> u32
-    requires { fine ≡ true → (count ≤ count_most) × (objects ≤ objects_most) × Rooted parent.now }
-    ensures { result ≡ first_code (create_order fine count parent.now state.now operation.now objects kind.now p child) }
+) -> Result<(), Reason>
+    requires { fine ≡ true → (tree.now.count ≤ count_most) × (objects.now.count ≤ objects_most) × Rooted tree.now.parent }
+    ensures { code_in result ≡ first_code (create_order fine tree.now.count tree.now.parent tree.now.state accesses.now.operation objects.now.count objects.now.kind p child) }
 {
     if !fine {
-        return 15;
+        return Err(Reason::Malformed);
     }
-    if count < p {
-        return 1;
+    if tree.count < p {
+        return Err(Reason::NoTransaction);
     }
-    if operation[p] != 0 {
-        return 3;
+    if accesses.operation[p] != 0 {
+        return Err(Reason::UnderAccess);
     }
-    let inactive = inactive_code(parent, state, p);
-    if inactive != 0 {
-        return inactive;
+    check_active(tree, p)?;
+    check_child(objects, child)?;
+    if COUNT_MOST <= tree.count {
+        return Err(Reason::Full);
     }
-    let unfit = child_code(objects, kind, child);
-    if unfit != 0 {
-        return unfit;
-    }
-    if COUNT_MOST <= count { 8 } else { 0 }
+    Ok(())
 }

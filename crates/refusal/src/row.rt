@@ -1,34 +1,37 @@
-// Refusals that several calls share. A code of 0 is none.
+// Refusals that several calls share.
 ghost use Rattle.std.specs.Prelude.{◌≡◌, ◌<◌};
 ghost use Rattle.columns.specs.Column.{rows_most};
+ghost use Rattle.refusal.specs.Reason.{code_in};
 ghost use Rattle.refusal.specs.Order.{first_code, unknown, inactive, Rooted};
 
-use columns::tree::{OPEN, ROWS, aborted_above, at16};
+use crate::reason::Reason;
+use columns::tree::{OPEN, Tree};
 
-// 1: no such transaction. 2: the root.
-pub(crate) fn unknown_code(count: usize, t: usize) -> u32
-    ensures { result ≡ first_code (unknown count t) }
+#[tactic(auto, unfolding(crate::specs::Order::first_code))]
+pub(crate) fn check_known(tree: &Tree, t: usize) -> Result<(), Reason>
+    ensures { code_in result ≡ first_code (unknown tree.now.count t) }
 {
-    if count < t {
-        return 1;
+    if tree.count < t {
+        return Err(Reason::NoTransaction);
     }
     if t == 0 {
-        return 2;
+        return Err(Reason::IsRoot);
     }
-    0
+    Ok(())
 }
 
-// 4: it has itself committed or aborted. 5: some transaction above it has aborted.
-pub(crate) fn inactive_code<'a>(parent: &'a [u16; ROWS], state: &'a [u8; ROWS], t: usize) -> u32
-    requires { (t < rows_most) × Rooted parent.now }
-    ensures { result ≡ first_code (inactive parent.now state.now t) }
+// Finished: it has itself committed or aborted. Orphaned: some transaction above it has aborted.
+#[tactic(auto, unfolding(crate::specs::Order::first_code))]
+pub(crate) fn check_active(tree: &Tree, t: usize) -> Result<(), Reason>
+    requires { (t < rows_most) × Rooted tree.now.parent }
+    ensures { code_in result ≡ first_code (inactive tree.now.parent tree.now.state t) }
 {
-    if state[t] != OPEN {
-        return 4;
+    if tree.state[t] != OPEN {
+        return Err(Reason::Finished);
     }
-    let above = at16(parent, t);
-    if aborted_above(parent, state, above) {
-        return 5;
+    let above = tree.parent_of(t);
+    if tree.has_aborted_above(above) {
+        return Err(Reason::Orphaned);
     }
-    0
+    Ok(())
 }

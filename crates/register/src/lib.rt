@@ -2,41 +2,39 @@
 #![tactic(auto)]
 
 ghost use Rattle.std.specs.Prelude.{◌≡◌};
-ghost use Rattle.kinds.specs.Register.{decode_of, step_of, shape_of, class_of};
+ghost use Rattle.kinds.specs.Range.{in_range};
+ghost use Rattle.kinds.specs.Register.{value_most, decode_of, step_of, shape_of, class_of};
 
-use kinds::range::{Ranged, within};
-use kinds::{
-    Class, Decoded, Operation, Outcome, Register, RegisterOperation, Shape, State, Stepped,
-};
+use kinds::range::within;
+use kinds::{Class, Operation, Outcome, Register, RegisterOperation, Shape, State, Stepped};
 
-pub fn decode(operation: u32, argument: i64) -> Decoded
+pub fn decode(operation: u32, argument: i64) -> Option<Operation>
     ensures { result ≡ decode_of operation argument }
 {
-    match operation {
-        Register::READ => match within(argument, Register::NO_ARGUMENT, Register::NO_ARGUMENT) {
-            Ranged::In(_) => Decoded::Fit(Operation::Register(RegisterOperation::Read)),
-            Ranged::Out => Decoded::Unfit,
-        },
-        Register::WRITE => match within(argument, Register::VALUE_LEAST, Register::VALUE_MOST) {
-            Ranged::In(n) => Decoded::Fit(Operation::Register(RegisterOperation::Write(n))),
-            Ranged::Out => Decoded::Unfit,
-        },
-        _ => Decoded::Unfit,
-    }
+    let decoded = match operation {
+        Register::READ if argument == Register::NO_ARGUMENT => RegisterOperation::Read,
+        Register::WRITE => RegisterOperation::Write(value(argument)?),
+        _ => return None,
+    };
+    Some(Operation::Register(decoded))
+}
+
+fn value(argument: i64) -> Option<u32>
+    ensures { result ≡ in_range argument 0 value_most Some None }
+{
+    within(argument, Register::VALUE_LEAST, Register::VALUE_MOST)
 }
 
 pub fn step(register: Register, operation: RegisterOperation) -> Stepped
     ensures { result ≡ step_of register operation }
 {
-    match operation {
-        RegisterOperation::Read => Stepped {
-            state: State::Register(register),
-            outcome: Outcome::Value(register.value as i64),
-        },
-        RegisterOperation::Write(value) => Stepped {
-            state: State::Register(Register { value }),
-            outcome: Outcome::Ok,
-        },
+    let (value, outcome) = match operation {
+        RegisterOperation::Read => (register.value, Outcome::Value(i64::from(register.value))),
+        RegisterOperation::Write(value) => (value, Outcome::Ok),
+    };
+    Stepped {
+        state: State::Register(Register { value }),
+        outcome,
     }
 }
 
@@ -45,26 +43,20 @@ pub fn shape_of(operation: RegisterOperation) -> Shape
 {
     match operation {
         RegisterOperation::Read => Shape::Between(
-            Register::VALUE_LEAST as i64,
-            Register::VALUE_MOST as i64,
+            i64::from(Register::VALUE_LEAST),
+            i64::from(Register::VALUE_MOST),
         ),
         RegisterOperation::Write(_) => Shape::Done,
     }
 }
 
-pub fn class_of(operation: RegisterOperation, outcome: Outcome) -> Class
+pub fn class_of(operation: RegisterOperation, outcome: Outcome) -> Option<Class>
     ensures { result ≡ class_of operation outcome }
 {
-    match operation {
-        RegisterOperation::Read => match outcome {
-            Outcome::Value(v) => Class::Row(Register::READ_ROW, v),
-            Outcome::Ok => Class::None,
-            Outcome::Fail => Class::None,
-        },
-        RegisterOperation::Write(n) => match outcome {
-            Outcome::Ok => Class::Row(Register::WRITE_ROW, n as i64),
-            Outcome::Fail => Class::None,
-            Outcome::Value(_) => Class::None,
-        },
-    }
+    let (row, key) = match (operation, outcome) {
+        (RegisterOperation::Read, Outcome::Value(v)) => (Register::READ_ROW, v),
+        (RegisterOperation::Write(n), Outcome::Ok) => (Register::WRITE_ROW, i64::from(n)),
+        _ => return None,
+    };
+    Some(Class { row, key })
 }

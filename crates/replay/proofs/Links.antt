@@ -10,10 +10,10 @@ use lib.Seq.{get_or-set_same, get_or-set_other, get_or-drop}
 use borrow.Author.Tests.{eq-eqb, ne_eqb}
 use Rattle.below.proofs.Tests.{bool_or, same_or}
 use Rattle.columns.specs.Column.{at, rows_most}
-use Rattle.columns.specs.Work.{work, on_list, list_in}
+use Rattle.columns.specs.Work.{work, on_list}
 use Rattle.columns.proofs.Once.{Misses}
 use Rattle.columns.proofs.Work.{only_each, length_work, work_at}
-use Rattle.replay.specs.Chain.{Chain, chain_in, Linked, Linkable}
+use Rattle.replay.specs.Chain.{Chain, chain_in, Linkable}
 use Rattle.replay.proofs.Past.{past, past_of, past_none, past_other, past_off, past_on, entry_some, entry_row}
 
 -- the chain says which list it is
@@ -81,9 +81,6 @@ module _ (order holder object : List ℕ) (listed o : ℕ) where
     nexts = b;
     chains = λ u h. subst₂ (Chain next) (sym (z u h)) (sym (past_none order holder object listed o u)) (chain_none next);
   }
-
-  pub chained_end : (i : ℕ) (head next : List ℕ) → i ≡ 0 → Chained i head next → Linked (list_in (work listed order) holder object o) head next
-  chained_end i head next e c = record { chains = (rw e at c).chains }
 
   module _ (i x : ℕ) (z : 0 < i) (b : i ≤ listed) (e : x ≡ at order (i - 1)) (head next : List ℕ) (c : Chained i head next) where
     pub chained_skip : (at object x ≡ o → ⊥) → Chained (i - 1) head next

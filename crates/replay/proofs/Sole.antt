@@ -12,5 +12,5 @@ record_of κs a x y s t = sole
 record_at_lem : Sole 1 of.access.record_at.Kinds.ps of.access.record_at.Kinds.r of.access.record_at.Reads.Learnt
 record_at_lem κs a x y s t = sole
 
-replayed : Sole 1 of.view.replayed.Kinds.ps of.view.replayed.Kinds.r of.view.replayed.Reads.Learnt
+replayed : Sole 3 of.view.replayed.Kinds.ps of.view.replayed.Kinds.r of.view.replayed.Reads.Learnt
 replayed κs a x y s t = sole

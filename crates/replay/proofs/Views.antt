@@ -1,15 +1,16 @@
 -- The laws of views, and that a view has no more entries than the order: an entry has one holder, and those above a transaction are lower.
 use Prim.Native.Nat.{ℕ, ◌+◌, ◌<◌, ◌≤◌}
 use mathlib.Core.Path.{◌≡◌, sym, ap₂, ◌∙◌}
-use mathlib.Core.Bool.{true, false, false≢true}
-use mathlib.Core.List.{List, ◌++◌}
+use mathlib.Core.Bool.{true, false, cond, false≢true}
+use mathlib.Core.List.{List, [], ◌++◌}
+use mathlib.Core.Logic.{⊎_elim}
 use native.Mathlib.Omega.{arith}
 use lib.Dec.{eqb, leb}
 use lib.ListN.{length, length-append}
 use borrow.Author.Tests.{eqb-true, leb-true, le-leb, ne_eqb}
 use Rattle.below.specs.Climb.{Lower}
 use Rattle.below.proofs.Climb.{lower_to, climb_root, climb_step, climb_ind}
-use Rattle.below.proofs.Tests.{and_fst}
+use Rattle.below.proofs.Tests.{and_fst, same_or}
 use Rattle.columns.specs.Column.{at}
 use Rattle.columns.specs.Work.{only, on_list, list_in}
 use Rattle.columns.proofs.Work.{Each, each_append, only_le, only_within}
@@ -21,6 +22,13 @@ module _ (parent : List ℕ) (own : ℕ → List ℕ) where
 
   pub view_step : (t : ℕ) → Lower (t + 1) (at parent) → 0 < t → view_in parent own t ≡ view_in parent own (at parent t) ++ own t
   view_step t w z = climb_step (at parent) (own 0) (λ u above. above ++ own u) t w z
+
+  -- what a view has before the own list
+  abbrev pub before : ℕ → List ℕ
+  before t = cond (eqb t 0) [] (view_in parent own (at parent t))
+
+  pub view_parts : (t : ℕ) → Lower (t + 1) (at parent) → view_in parent own t ≡ before t ++ own t
+  view_parts t w = ⊎_elim (λ e. rw e view_root) (λ n. rw (ne_eqb t 0 n) (view_step t w (omega arith))) (same_or t 0)
 
 -- lists that agree give the same view
 pub view_same : (parent : List ℕ) (own other : ℕ → List ℕ) (n : ℕ) → Lower n (at parent) → ((u : ℕ) → u < n → own u ≡ other u)

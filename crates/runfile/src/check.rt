@@ -1,152 +1,111 @@
 // The check of a whole file, before anything of it is run.
-ghost use Rattle.std.specs.Prelude.{◌≡◌, ◌+◌, ◌≤◌};
+ghost use Rattle.std.specs.Prelude.{◌≡◌, ℕ, ◌+◌, ◌≤◌, Option, IfOk};
 ghost use Rattle.written.specs.Written.{calls_most, bytes_most};
 ghost use Rattle.written.specs.Items.{ends_from};
-ghost use Rattle.written.specs.Check.{next_in, most_in, count_at, section_at, ended_at, calls_layout, layout_of, check_of};
+ghost use Rattle.written.specs.Check.{Reads, count_at, section_at, ended_at, calls_layout, layout_of, check_of};
 
 use crate::line::{call_at, object_at};
-use text::number::{LINE_END, Number, number_at};
-use written::{CallLine, Check, Ends, Layout, Next, ObjectLine, Part, Place, Section, SectionEnd};
+use text::number::{LINE_END, number_at};
+use written::{Layout, Part, Place, WrongLine};
 
-// Limits of document 01, "The run file and its program".
+// The limits of a run file.
 pub const BYTES: usize = 65536;
 
 pub const OBJECTS: u32 = 64;
 
 pub const CALLS: u32 = 4096;
 
-fn next_in(file: &[u8], section: Section, at: usize) -> Next
-    ensures { result ≡ next_in file.now section at }
+// Goes through the lines of a section, each read by `read`. The `requires` keeps line numbers within 32 bits.
+fn lines_end<A: Copy, F: Fn(usize) -> Option<(A, usize)>>(
+    lines: u32,
+    place: Place,
+    read: F,
+) -> Result<Place, WrongLine>
+    requires callable { F.IsAlwaysCallable read }
+    requires few { (lines ≤ calls_most) × (place.line ≤ bytes_most + 1) }
+    ensures reads { (line : ℕ → Option (A × ℕ)) → Reads (F.post read) line → result ≡ ends_from line lines place }
+    ensures counted { IfOk result (λ end. end.line ≡ place.line + lines) }
 {
-    match section {
-        Section::Objects => {
-            let ObjectLine::Object(_, _, next) = object_at(file, at) else {
-                return Next::Wrong;
-            };
-            Next::Line(next)
-        }
-        Section::Calls => {
-            let CallLine::Call(_, next) = call_at(file, at) else {
-                return Next::Wrong;
-            };
-            Next::Line(next)
-        }
-    }
-}
-
-// Goes through lines of a section. The `requires` keeps line numbers within 32 bits.
-fn lines_end(file: &[u8], section: Section, lines: u32, place: Place) -> Ends
-    requires { (lines ≤ calls_most) × (place.line ≤ bytes_most + 1) }
-    ensures { result ≡ ends_from (next_in file.now section) lines place }
-{
-    let mut left = lines;
     let mut at = place.at;
     let mut line = place.line;
-    while 0 < left {
-        let Next::Line(next) = next_in(file, section, at) else {
-            return Ends::Wrong(line);
+    for _ in 0..lines {
+        let Some((_, next)) = read(at) else {
+            return Err(WrongLine { line });
         };
         at = next;
         line += 1;
-        left -= 1;
     }
-    Ends::At(Place { at: at, line: line })
-}
-
-fn most_in(section: Section) -> u32
-    ensures { result ≡ most_in section }
-{
-    match section {
-        Section::Objects => OBJECTS,
-        Section::Calls => CALLS,
-    }
+    Ok(Place { at, line })
 }
 
 // A count, at most `most`, on a line of its own.
-fn count_at(file: &[u8], at: usize, most: u32) -> Number
+fn count_at(file: &[u8], at: usize, most: u32) -> Option<(u32, usize)>
     ensures { result ≡ count_at most file.now at }
 {
-    let Number::Value(count, next) = number_at(file, at, LINE_END) else {
-        return Number::Wrong;
-    };
+    let (count, next) = number_at(file, at, LINE_END)?;
     if most < count {
-        return Number::Wrong;
+        return None;
     }
-    Number::Value(count, next)
+    Some((count, next))
 }
 
-// A section from its count on.
-fn section_at(file: &[u8], section: Section, place: Place) -> SectionEnd
-    requires { place.line ≤ bytes_most }
-    ensures { result ≡ section_at file.now section place }
+// A section of at most `most` lines, each read by `read`, from its count on.
+#[tactic(auto, using(written::proofs::Line::count_most))]
+fn section_at<A: Copy, F: Fn(usize) -> Option<(A, usize)>>(
+    file: &[u8],
+    most: u32,
+    place: Place,
+    read: F,
+) -> Result<(Part, Place), WrongLine>
+    requires callable { F.IsAlwaysCallable read }
+    requires few { (most ≤ calls_most) × (place.line ≤ bytes_most) }
+    ensures reads { (line : ℕ → Option (A × ℕ)) → Reads (F.post read) line → result ≡ section_at line most file.now place }
+    ensures counted { IfOk result (λ section. section.1.line ≤ place.line + 1 + most) }
 {
-    let at = place.at;
-    let line = place.line;
-    let Number::Value(lines, start) = count_at(file, at, most_in(section)) else {
-        return SectionEnd::Wrong(line);
-    };
+    let wrong = WrongLine { line: place.line };
+    let (lines, start) = count_at(file, place.at, most).ok_or(wrong)?;
     let first = Place {
         at: start,
-        line: line + 1,
+        line: place.line + 1,
     };
-    let ends = lines_end(file, section, lines, first);
-    match ends {
-        Ends::Wrong(wrong) => SectionEnd::Wrong(wrong),
-        Ends::At(end) => {
-            let part = Part {
-                lines: lines,
-                start: start,
-            };
-            SectionEnd::After(part, end)
-        }
-    }
+    let end = lines_end(lines, first, read)?;
+    Ok((Part { lines, start }, end))
 }
 
 // Nothing follows the last line.
-fn ended_at(file: &[u8], layout: Layout, place: Place) -> Check
+fn ended_at(file: &[u8], layout: Layout, place: Place) -> Result<Layout, WrongLine>
     ensures { result ≡ ended_at file.now layout place }
 {
     if place.at == file.len() {
-        Check::Good(layout)
+        Ok(layout)
     } else {
-        Check::Bad(place.line)
+        Err(WrongLine { line: place.line })
     }
 }
 
 // From the call count on.
-fn calls_layout(file: &[u8], objects: Part, place: Place) -> Check
+fn calls_layout(file: &[u8], objects: Part, place: Place) -> Result<Layout, WrongLine>
     requires { place.line ≤ bytes_most }
     ensures { result ≡ calls_layout file.now objects place }
 {
-    let end = section_at(file, Section::Calls, place);
-    match end {
-        SectionEnd::Wrong(line) => Check::Bad(line),
-        SectionEnd::After(calls, after) => {
-            let layout = Layout {
-                objects: objects,
-                calls: calls,
-            };
-            ended_at(file, layout, after)
-        }
-    }
+    let (calls, after) = section_at(file, CALLS, place, |at| call_at(file, at))?;
+    ended_at(file, Layout { objects, calls }, after)
 }
 
-fn layout_of(file: &[u8]) -> Check
+fn layout_of(file: &[u8]) -> Result<Layout, WrongLine>
     ensures { result ≡ layout_of file.now }
 {
     let top = Place { at: 0, line: 1 };
-    let end = section_at(file, Section::Objects, top);
-    match end {
-        SectionEnd::Wrong(line) => Check::Bad(line),
-        SectionEnd::After(objects, after) => calls_layout(file, objects, after),
-    }
+    let (objects, after) = section_at(file, OBJECTS, top, |at| object_at(file, at))?;
+    calls_layout(file, objects, after)
 }
 
-pub fn check_file(file: &[u8]) -> Check
+#[tactic(auto, unfolding(written::specs::Check::check_of))]
+pub fn check_file(file: &[u8]) -> Result<Layout, WrongLine>
     ensures { result ≡ check_of file.now }
 {
     if BYTES < file.len() {
-        return Check::Bad(0);
+        return Err(WrongLine { line: 0 });
     }
     layout_of(file)
 }

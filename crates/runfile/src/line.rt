@@ -1,104 +1,74 @@
 // The lines of the file's two sections.
-ghost use Rattle.std.specs.Prelude.{◌≡◌};
+ghost use Rattle.std.specs.Prelude.{◌≡◌, ◌+◌, ◌<◌, length, IfSome};
 ghost use Rattle.written.specs.Line.{letter_at, is_kind, single_of, access_at, object_at, call_at};
 
-use text::number::{LINE_END, Number, SPACE, number_at};
-use text::signed::{Signed, signed_at};
-use written::{Call, CallLine, ObjectLine};
+use text::number::{LINE_END, SPACE, number_at};
+use text::signed::signed_at;
+use written::{Call, Object};
 
 fn is_kind(letter: u8) -> bool
     ensures { result ≡ is_kind letter }
 {
-    match letter {
-        b'A' => true,
-        b'R' => true,
-        b'K' => true,
-        b'S' => true,
-        _ => false,
-    }
+    matches!(letter, b'A' | b'R' | b'K' | b'S')
 }
 
-// The byte at a place where a space follows it, and 0 elsewhere.
+// The byte at a place, where a space follows it.
 #[tactic(auto, using(written::proofs::Letters::letter_past), unfolding(written::specs::Line::letter_at))]
-fn letter_at(file: &[u8], at: usize) -> u8
-    ensures { result ≡ letter_at file.now at }
+fn letter_at(file: &[u8], at: usize) -> Option<u8>
+    ensures letter { result ≡ letter_at file.now at }
+    ensures space { IfSome result (λ _. at + 1 < length file.now) }
 {
-    if file.len() <= at {
-        return 0;
-    }
-    let after = at + 1;
-    if file.len() <= after {
-        return 0;
-    }
-    if file[after] == SPACE { file[at] } else { 0 }
+    let [letter, SPACE, ..] = file.get(at..)? else {
+        return None;
+    };
+    Some(*letter)
 }
 
 // The call of a line with one number.
-fn single(letter: u8, t: u32, next: usize) -> CallLine
-    ensures { result ≡ single_of letter t next }
+fn single(letter: u8, t: u32) -> Option<Call>
+    ensures { result ≡ single_of letter t }
 {
-    if letter == b'N' {
-        return CallLine::Call(Call::Plain(t), next);
+    match letter {
+        b'N' => Some(Call::Plain(t)),
+        b'G' => Some(Call::Respond(t)),
+        b'C' => Some(Call::Commit(t)),
+        b'B' => Some(Call::Abort(t)),
+        _ => None,
     }
-    if letter == b'G' {
-        return CallLine::Call(Call::Respond(t), next);
-    }
-    if letter == b'C' {
-        return CallLine::Call(Call::Commit(t), next);
-    }
-    if letter == b'B' {
-        return CallLine::Call(Call::Abort(t), next);
-    }
-    CallLine::Wrong
 }
 
-// The four numbers of an access, from the first on.
-fn access_at(file: &[u8], at: usize) -> CallLine
+// The four numbers of an access, from the first on. Not part of `call_at`: beside its other results the loops over digits come out slower.
+#[inline(never)]
+fn access_at(file: &[u8], at: usize) -> Option<(Call, usize)>
     ensures { result ≡ access_at file.now at }
 {
-    let Number::Value(parent, object_at) = number_at(file, at, SPACE) else {
-        return CallLine::Wrong;
-    };
-    let Number::Value(object, operation_at) = number_at(file, object_at, SPACE) else {
-        return CallLine::Wrong;
-    };
-    let Number::Value(operation, argument_at) = number_at(file, operation_at, SPACE) else {
-        return CallLine::Wrong;
-    };
-    let Signed::Value(argument, next) = signed_at(file, argument_at, LINE_END) else {
-        return CallLine::Wrong;
-    };
-    CallLine::Call(Call::Access(parent, object, operation, argument), next)
+    let (parent, object_at) = number_at(file, at, SPACE)?;
+    let (object, operation_at) = number_at(file, object_at, SPACE)?;
+    let (operation, argument_at) = number_at(file, operation_at, SPACE)?;
+    let (argument, next) = signed_at(file, argument_at, LINE_END)?;
+    Some((Call::Access(parent, object, operation, argument), next))
 }
 
-pub fn call_at(file: &[u8], at: usize) -> CallLine
+// The call of a line, with the place of the next line.
+pub fn call_at(file: &[u8], at: usize) -> Option<(Call, usize)>
     ensures { result ≡ call_at file.now at }
 {
-    let letter = letter_at(file, at);
-    // Without a letter, nothing says that two bytes are there to go past.
-    if letter == 0 {
-        return CallLine::Wrong;
-    }
-    let from = at + 2;
+    let letter = letter_at(file, at)?;
     if letter == b'U' {
-        return access_at(file, from);
+        return access_at(file, at + 2);
     }
-    let Number::Value(t, next) = number_at(file, from, LINE_END) else {
-        return CallLine::Wrong;
-    };
-    single(letter, t, next)
+    let (t, next) = number_at(file, at + 2, LINE_END)?;
+    Some((single(letter, t)?, next))
 }
 
-pub fn object_at(file: &[u8], at: usize) -> ObjectLine
+// The object of a line, with the place of the next line.
+pub fn object_at(file: &[u8], at: usize) -> Option<(Object, usize)>
     ensures { result ≡ object_at file.now at }
 {
-    let letter = letter_at(file, at);
+    let letter = letter_at(file, at)?;
     if !is_kind(letter) {
-        return ObjectLine::Wrong;
+        return None;
     }
-    let from = at + 2;
-    let Signed::Value(opening, next) = signed_at(file, from, LINE_END) else {
-        return ObjectLine::Wrong;
-    };
-    ObjectLine::Object(letter, opening, next)
+    let (opening, next) = signed_at(file, at + 2, LINE_END)?;
+    Some((Object { letter, opening }, next))
 }

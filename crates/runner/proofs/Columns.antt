@@ -1,5 +1,5 @@
 -- Objects put into the columns one by one, as they are read from their lines.
-use Prim.Native.Nat.{ℕ, ◌+◌, ◌-◌, ◌≤◌, ◌<◌}
+use Prim.Native.Nat.{ℕ, ◌+◌, ◌≤◌}
 use mathlib.Core.Path.{◌≡◌, sym, ap, ◌∙◌}
 use mathlib.Core.List.{List, [], ◌∷◌, map}
 use native.Mathlib.Nat.{zero-add, add-zero, add-suc, suc-add}
@@ -8,11 +8,11 @@ use native.Mathlib.Omega.{arith}
 use lib.ListN.{length, set, replicate, take, drop, length-map}
 use lib.Seq.{sets, sets-eq, length-sets, take_at}
 use lib.IntN.{ℤ, pos}
-use Rattle.written.specs.Written.{Object, objects_most}
+use Rattle.std.specs.Prelude.{Some, None}
+use Rattle.written.specs.Written.{objects_most}
+use Rattle.written.specs.declared.Object.{Object}
 use Rattle.written.specs.Items.{items_from}
 use Rattle.written.specs.Line.{object_at}
-use Rattle.written.specs.Check.{object_read, object_item}
-use Rattle.written.specs.declared.ObjectLine.TheVariants as O
 use Rattle.written.proofs.Items.{items_done, items_wrong, items_more}
 use Rattle.runner.specs.declared.Objects.{Objects}
 use Rattle.runner.specs.Columns.{columns_of}
@@ -41,18 +41,16 @@ module _ (kinds : List ℕ) (openings : List ℤ) (i : ℕ) where
   one_more o rest = rw (add-one, add-suc, suc-add)
 
   module _ (file : List ℕ) (n at : ℕ) where
-    pub columns_done : n ≤ 0 → columns_from kinds openings i (items_from (object_item file) n at) ≡ columns kinds openings i
-    columns_done h = rw (items_done (object_item file) n at h) no_more
+    pub columns_done : n ≤ 0 → columns_from kinds openings i (items_from (object_at file) n at) ≡ columns kinds openings i
+    columns_done h = rw (items_done (object_at file) n at h) no_more
 
-    pub columns_wrong : object_at file at ≡ O.Wrong → columns_from kinds openings i (items_from (object_item file) n at) ≡ columns kinds openings i
-    columns_wrong e = rw (items_wrong (object_item file) n at (ap object_read e)) no_more
+    pub columns_wrong : object_at file at ≡ None → columns_from kinds openings i (items_from (object_at file) n at) ≡ columns kinds openings i
+    columns_wrong e = rw (items_wrong (object_at file) n at e) no_more
 
-    pub columns_more : (letter : ℕ) (opening : ℤ) (next : ℕ) → 0 < n → object_at file at ≡ O.Object letter opening next
-        → columns_from kinds openings i (items_from (object_item file) n at)
-        ≡ columns_from (set kinds i letter) (set openings i opening) (i + 1) (items_from (object_item file) (n - 1) next)
-    columns_more letter opening next h e =
-        rw (items_more (object_item file) n at (record { letter = letter; opening = opening }) next h (ap object_read e))
-        (one_more (record { letter = letter; opening = opening }) (items_from (object_item file) (n - 1) next))
+    pub columns_more : (m : ℕ) (o : Object) (next : ℕ) → n ≡ m + 1 → object_at file at ≡ Some (o, next)
+        → columns_from kinds openings i (items_from (object_at file) n at)
+        ≡ columns_from (set kinds i o.letter) (set openings i o.opening) (i + 1) (items_from (object_at file) m next)
+    columns_more m o next h e = rw (items_more (object_at file) n m at o next h e) (one_more o (items_from (object_at file) m next))
 
 -- a column with these values at its front
 pub record Front {A : Type 0} (values : List A) (count : ℕ) (column : List A) : Type 0 where

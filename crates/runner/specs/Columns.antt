@@ -1,7 +1,8 @@
 -- The objects of a file as the columns that an opening reads; the code's own.
 use Rattle.std.specs.Prelude.{List, map, length, replicate, pos}
 use Rattle.std.proofs.lemmas.List.Edits.{sets}
-use Rattle.written.specs.Written.{Object, objects_most}
+use Rattle.written.specs.Written.{objects_most}
+use Rattle.written.specs.declared.Object.{Object}
 use Rattle.runner.specs.declared.Objects.{Objects}
 
 -- letters and openings at the front, as many as there are objects

@@ -6,7 +6,7 @@ ghost use Rattle.text.specs.Text.{answer_most};
 ghost use Rattle.text.specs.Puts.{Puts};
 ghost use Rattle.written.specs.Written.{joined, objects_most, calls_most};
 ghost use Rattle.written.specs.Items.{items_from};
-ghost use Rattle.written.specs.Check.{object_item, call_item};
+ghost use Rattle.written.specs.Line.{object_at, call_at};
 ghost use Rattle.written.specs.File.{objects_in, calls_in};
 ghost use Rattle.store.specs.Calls.{reply_to, answers_to};
 ghost use Rattle.output.specs.Output.{call_of, opened_with, answers_from, line_of, output_of, output_most};
@@ -18,7 +18,7 @@ use runfile::check::check_file;
 use runfile::line::{call_at, object_at};
 use store::{Reply, Store};
 use text::print::put_answer;
-use written::{Call, CallLine, Check, Layout, ObjectLine, Part};
+use written::{Call, Layout, Part};
 
 // A byte more than a run file may have: of a file that fills so many, the rest need not be read.
 pub const INPUT: usize = 65537;
@@ -38,31 +38,26 @@ struct Objects {
 // The object lines of a section that has been checked.
 fn objects_in(file: &[u8], part: Part) -> Objects
     requires { part.lines ≤ objects_most }
-    ensures { result ≡ columns_of (items_from (object_item file.now) part.lines part.start) }
+    ensures objects { result ≡ columns_of (items_from (object_at file.now) part.lines part.start) }
+    ensures few { result.count ≤ objects_most }
 {
     let mut kinds = [0u8; OBJECTS];
     let mut openings = [0i64; OBJECTS];
-    let mut i: usize = 0;
+    let mut count: usize = 0;
     let mut at = part.start;
-    let mut left = part.lines;
-    while 0 < left {
-        let ObjectLine::Object(letter, opening, next) = object_at(file, at) else {
-            return Objects {
-                count: i,
-                kinds: kinds,
-                openings: openings,
-            };
+    for _ in 0..part.lines {
+        let Some((object, next)) = object_at(file, at) else {
+            break;
         };
-        kinds[i] = letter;
-        openings[i] = opening;
-        i += 1;
+        kinds[count] = object.letter;
+        openings[count] = object.opening;
+        count += 1;
         at = next;
-        left -= 1;
     }
     Objects {
-        count: i,
-        kinds: kinds,
-        openings: openings,
+        count,
+        kinds,
+        openings,
     }
 }
 
@@ -73,9 +68,9 @@ fn reply_to(store: Store, call: Call) -> Reply
         Call::Plain(parent) => store.create(parent, Child::Plain),
         Call::Access(parent, object, operation, argument) => {
             let request = Request {
-                object: object,
-                operation: operation,
-                argument: argument,
+                object,
+                operation,
+                argument,
             };
             store.create(parent, Child::Access(request))
         }
@@ -87,36 +82,32 @@ fn reply_to(store: Store, call: Call) -> Reply
 
 fn opened_with(file: &[u8], part: Part) -> Reply
     requires { part.lines ≤ objects_most }
-    ensures { result ≡ opened_with (items_from (object_item file.now) part.lines part.start) }
+    ensures { result ≡ opened_with (items_from (object_at file.now) part.lines part.start) }
 {
     let objects = objects_in(file, part);
-    let count = objects.count;
-    let kinds = objects.kinds;
-    let openings = objects.openings;
-    Store::open(&kinds[..count], &openings[..count])
+    let kinds = &objects.kinds[..objects.count];
+    let openings = &objects.openings[..objects.count];
+    Store::open(kinds, openings)
 }
 
 // The call lines of a section that has been checked: each is made, and its answer put, before the next is read.
 fn run_calls(file: &[u8], part: Part, opened: Reply, out: &mut [u8], place: usize) -> usize
     requires { place + answer_most * part.lines ≤ length out.old }
-    ensures { Puts out.old place (joined line_of (answers_to opened.store (map call_of (items_from (call_item file.now) part.lines part.start)))) result out.new }
+    ensures { Puts out.old place (joined line_of (answers_to opened.store (map call_of (items_from (call_at file.now) part.lines part.start)))) result out.new }
 {
     let mut reply = opened;
     let mut at = part.start;
-    let mut left = part.lines;
-    let mut end = place;
-    while 0 < left {
-        let CallLine::Call(call, next) = call_at(file, at) else {
-            return end;
+    let mut after = place;
+    for _ in 0..part.lines {
+        let Some((call, next)) = call_at(file, at) else {
+            break;
         };
-
         reply = reply_to(reply.store, call);
         let answer = reply.answer;
-        end = put_answer(out, end, answer.code, answer.a, answer.b);
+        after = put_answer(out, after, answer.code, answer.a, answer.b);
         at = next;
-        left -= 1;
     }
-    end
+    after
 }
 
 fn run_good(file: &[u8], layout: Layout, out: &mut [u8]) -> usize
@@ -136,10 +127,9 @@ fn run_into(file: &[u8], out: &mut [u8]) -> usize
     requires { output_most ≤ length out.old }
     ensures { Puts out.old 0 (output_of file.now) result out.new }
 {
-    let checked = check_file(file);
-    match checked {
-        Check::Bad(line) => put_answer(out, 0, 16, line, 0),
-        Check::Good(layout) => run_good(file, layout, out),
+    match check_file(file) {
+        Ok(layout) => run_good(file, layout, out),
+        Err(wrong) => put_answer(out, 0, 16, wrong.line, 0),
     }
 }
 

@@ -3,12 +3,12 @@
 #![tactic(auto)]
 
 ghost use Rattle.std.specs.Prelude.{◌≡◌};
-ghost use Rattle.kinds.specs.Kinds.{kind_of, opened_of, start_of, decode_of, idle, step_of, Room, shape_of, recall_of, class_of, table_of, conflict_of};
+ghost use Rattle.kinds.specs.Kinds.{kind_of, opened_of, start_of, decode_of, step_of, Room, shape_of, recall_of, class_of, table_of, conflict_of};
 ghost use Rattle.kinds.specs.Table.{entry};
 
 use kinds::{
-    Account, Answered, Bin, Class, Counter, Decoded, Kind, Opening, Operation, Outcome, Recalled,
-    Register, Rule, Shape, State, Stepped,
+    Account, Answered, Bin, Class, Counter, Kind, Operation, Outcome, Register, Rule, Shape, State,
+    Stepped,
 };
 
 #[tactic(auto, unfolding(kinds::specs::Kinds::kind_of))]
@@ -24,7 +24,7 @@ pub fn kind_of(letter: u8) -> Kind
     }
 }
 
-pub fn opened(kind: Kind, opening: i64) -> Opening
+pub fn opened(kind: Kind, opening: i64) -> Option<State>
     ensures { result ≡ opened_of kind opening }
 {
     match kind {
@@ -32,7 +32,7 @@ pub fn opened(kind: Kind, opening: i64) -> Opening
         Kind::Register => Register::opened(opening),
         Kind::Counter => Counter::opened(opening),
         Kind::Bin => Bin::opened(opening),
-        Kind::Unknown => Opening::Refused,
+        Kind::Unknown => None,
     }
 }
 
@@ -40,13 +40,10 @@ pub fn opened(kind: Kind, opening: i64) -> Opening
 pub fn opened_state(kind: Kind, opening: i64) -> State
     ensures { result ≡ start_of (opened_of kind opening) }
 {
-    match opened(kind, opening) {
-        Opening::At(s) => s,
-        Opening::Refused => State::Account(Account { balance: 0 }),
-    }
+    opened(kind, opening).unwrap_or(State::Account(Account { balance: 0 }))
 }
 
-pub fn decode(kind: Kind, operation: u32, argument: i64) -> Decoded
+pub fn decode(kind: Kind, operation: u32, argument: i64) -> Option<Operation>
     ensures { result ≡ decode_of kind operation argument }
 {
     match kind {
@@ -54,17 +51,7 @@ pub fn decode(kind: Kind, operation: u32, argument: i64) -> Decoded
         Kind::Register => register::decode(operation, argument),
         Kind::Counter => counter::decode(operation, argument),
         Kind::Bin => bin::decode(operation, argument),
-        Kind::Unknown => Decoded::Unfit,
-    }
-}
-
-// An operation of another kind fails and changes nothing.
-fn unchanged(state: State) -> Stepped
-    ensures { result ≡ idle state }
-{
-    Stepped {
-        state,
-        outcome: Outcome::Fail,
+        Kind::Unknown => None,
     }
 }
 
@@ -72,22 +59,15 @@ pub fn step(state: State, operation: Operation) -> Stepped
     requires { Room state operation }
     ensures { result ≡ step_of state operation }
 {
-    match state {
-        State::Account(account) => match operation {
-            Operation::Account(o) => account::step(account, o),
-            _ => unchanged(state),
-        },
-        State::Register(register) => match operation {
-            Operation::Register(o) => register::step(register, o),
-            _ => unchanged(state),
-        },
-        State::Counter(counter) => match operation {
-            Operation::Counter(o) => counter::step(counter, o),
-            _ => unchanged(state),
-        },
-        State::Bin(bin) => match operation {
-            Operation::Bin(o) => bin::step(bin, o),
-            _ => unchanged(state),
+    match (state, operation) {
+        (State::Account(account), Operation::Account(o)) => account::step(account, o),
+        (State::Register(register), Operation::Register(o)) => register::step(register, o),
+        (State::Counter(counter), Operation::Counter(o)) => counter::step(counter, o),
+        (State::Bin(bin), Operation::Bin(o)) => bin::step(bin, o),
+        // An operation of another kind fails and changes nothing.
+        _ => Stepped {
+            state,
+            outcome: Outcome::Fail,
         },
     }
 }
@@ -103,35 +83,22 @@ fn shape_of(operation: Operation) -> Shape
     }
 }
 
-pub fn recall(operation: Operation, a: u32, b: i64) -> Recalled
+pub fn recall(operation: Operation, a: u32, b: i64) -> Option<Outcome>
     ensures { result ≡ recall_of operation a b }
 {
     shape_of(operation).recall(a, b)
 }
 
-fn class_of(kind: Kind, answered: Answered) -> Class
+fn class_of(kind: Kind, answered: Answered) -> Option<Class>
     ensures { result ≡ class_of kind answered.operation answered.outcome }
 {
-    let operation = answered.operation;
-    let outcome = answered.outcome;
-    match kind {
-        Kind::Account => match operation {
-            Operation::Account(o) => account::class_of(o, outcome),
-            _ => Class::None,
-        },
-        Kind::Register => match operation {
-            Operation::Register(o) => register::class_of(o, outcome),
-            _ => Class::None,
-        },
-        Kind::Counter => match operation {
-            Operation::Counter(o) => counter::class_of(o, outcome),
-            _ => Class::None,
-        },
-        Kind::Bin => match operation {
-            Operation::Bin(o) => bin::class_of(o, outcome),
-            _ => Class::None,
-        },
-        Kind::Unknown => Class::None,
+    let Answered { operation, outcome } = answered;
+    match (kind, operation) {
+        (Kind::Account, Operation::Account(o)) => account::class_of(o, outcome),
+        (Kind::Register, Operation::Register(o)) => register::class_of(o, outcome),
+        (Kind::Counter, Operation::Counter(o)) => counter::class_of(o, outcome),
+        (Kind::Bin, Operation::Bin(o)) => bin::class_of(o, outcome),
+        _ => None,
     }
 }
 
@@ -152,11 +119,8 @@ fn rule_of(kind: Kind, row: usize, column: usize) -> Rule
 pub fn conflicts(kind: Kind, asking: Answered, held: Answered) -> bool
     ensures { result ≡ conflict_of kind asking held }
 {
-    let Class::Row(row, asking_key) = class_of(kind, asking) else {
+    let (Some(p), Some(q)) = (class_of(kind, asking), class_of(kind, held)) else {
         return true;
     };
-    let Class::Row(column, held_key) = class_of(kind, held) else {
-        return true;
-    };
-    rule_of(kind, row, column).judge(asking_key, held_key)
+    rule_of(kind, p.row, q.row).judge(p.key, q.key)
 }

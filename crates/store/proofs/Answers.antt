@@ -66,10 +66,10 @@ module _ (s : Store) (p : ℕ) where
   create_order_lem (Access r) = refl
 
   -- the new number is one more than the last: numbers run 1, 2, 3 in order of accepted creations
-  pub create_decided : (child : Child) → Decided s (create_refusals s p child) (reply_of (created s p (request_of child)) (answer_of 0 (s.count + 1) (pos 0))) (create_of s p child)
+  pub create_decided : (child : Child) → Decided s (create_refusals s p child) (reply_of (created s p (request_of child)) (answer_of 0 (s.tree.count + 1) (pos 0))) (create_of s p child)
   unfolding create_of
   create_decided child =
-      decided s (reply_of (created s p (request_of child)) (answer_of 0 (s.count + 1) (pos 0))) (create_refusals s p child) refl (ap distinct (create_order_lem child))
+      decided s (reply_of (created s p (request_of child)) (answer_of 0 (s.tree.count + 1) (pos 0))) (create_refusals s p child) refl (ap distinct (create_order_lem child))
 
   pub create_codes : (child : Child) (i : ℕ) → i < 8
       → ((create_of s p child).answer.code ≡ (nth (create_refusals s p child) i).answer.code) ↔ FirstToHold (create_refusals s p child) i
@@ -86,12 +86,12 @@ plain_never s = (refl, refl)
 pub root_open : (s : Store) → in_form s ≡ true → ((under_access s 0).when ≡ false) × ((finished s 0).when ≡ false) × ((orphaned s 0).when ≡ false)
 root_open s fine =
     let form : Form s = form_facts s fine in
-    let operation : at s.operation 0 ≡ 0 = root_plain _ _ _ _ _ _ _ _ form.accesses in
-    let state : at s.state 0 ≡ 0 = form.tree.unused_state 0 (omega arith) (λ u. omega (arith, u)) in
-    let parent : at s.parent 0 ≡ 0 = form.tree.unused_parent 0 (omega arith) (λ u. omega (arith, u)) in (
+    let operation : at s.accesses.operation 0 ≡ 0 = root_plain _ _ _ _ _ _ _ _ form.accesses in
+    let state : at s.tree.state 0 ≡ 0 = form.tree.unused_state 0 (omega arith) (λ u. omega (arith, u)) in
+    let parent : at s.tree.parent 0 ≡ 0 = form.tree.unused_parent 0 (omega arith) (λ u. omega (arith, u)) in (
       rw operation,
       rw state,
-      up_stop (at s.parent) (λ y. eqb (at s.state y) has_aborted) (at s.parent 0) parent (rw (parent, state)),
+      up_stop (at s.tree.parent) (λ y. eqb (at s.tree.state y) has_aborted) (at s.tree.parent 0) parent (rw (parent, state)),
     )
 
 module _ (s : Store) (t : ℕ) where
@@ -129,13 +129,13 @@ module _ (s : Store) (t : ℕ) where
 
   -- 11 is for plain transactions, 12 for accesses: where one holds, the other does not
   pub commit_either : (child_open s t).when ≡ true → (unanswered s t).when ≡ false
-  commit_either e = rw (and_fst (eqb (at s.operation t) 0) (any_below (rows_of s) (open_child s.parent s.state t)) e)
+  commit_either e = rw (and_fst (eqb (at s.accesses.operation t) 0) (any_below (rows_of s) (open_child s.tree.parent s.tree.state t)) e)
 
   -- 11 names the lowest child that has neither committed nor aborted
-  pub child_lowest : (child_open s t).when ≡ true → Lowest (rows_of s) (open_child s.parent s.state t) (child_open s t).answer.a
+  pub child_lowest : (child_open s t).when ≡ true → Lowest (rows_of s) (open_child s.tree.parent s.tree.state t) (child_open s t).answer.a
   child_lowest e =
-      first_lowest (open_child s.parent s.state t) (rows_of s)
-      (and_snd (eqb (at s.operation t) 0) (any_below (rows_of s) (open_child s.parent s.state t)) e)
+      first_lowest (open_child s.tree.parent s.tree.state t) (rows_of s)
+      (and_snd (eqb (at s.accesses.operation t) 0) (any_below (rows_of s) (open_child s.tree.parent s.tree.state t)) e)
 
   -- abort: 15, 1, 2, 4, 5
   pub abort_order : codes_of (abort_refusals s t) ≡ 15 ∷ 1 ∷ 2 ∷ 4 ∷ 5 ∷ []

@@ -1,4 +1,5 @@
 -- The store that a call hands back is in form, whatever the answer. Source: document 01, "Form rules of a store".
+use Rattle.std.specs.Prelude.{Some}
 use Prim.Native.Nat.{ℕ, ◌+◌, ◌<◌, ◌≤◌}
 use mathlib.Core.Path.{◌≡◌, refl, sym, ap, ◌∙◌}
 use mathlib.Core.Bool.{true, false, true≢false}
@@ -13,14 +14,13 @@ use Rattle.below.proofs.Tests.{and_snd}
 use Rattle.below.proofs.Search.{all_at}
 use Rattle.below.proofs.Column.{set_at, set_past, filled_at}
 use Rattle.kinds.specs.declared.Operation.{Operation}
-use Rattle.kinds.specs.declared.Decoded.TheVariants.{Fit}
 use Rattle.kinds.specs.Kinds.{decode_of, step_of}
 use Rattle.kinds.specs.Outcome.{numbers_of}
 use Rattle.kinds.proofs.Claims.{answers_recalled}
 use Rattle.kinds.proofs.Fits.{fit_number}
 use Rattle.columns.specs.Column.{at, at_z, rows_most}
 use Rattle.columns.specs.Tree.{has_committed, has_aborted, at_or_above}
-use Rattle.columns.specs.declared.order.Work.{Work}
+use Rattle.columns.specs.declared.lists.Lists as work
 use Rattle.form.specs.Form.{objects_most, count_most}
 use Rattle.form.proofs.Facts.{Objects, Used, Blank, Accesses, Lists, unanswered_unlisted}
 use Rattle.form.proofs.KeptTree.{set_next, state_kept, tree_created, tree_opened}
@@ -52,8 +52,8 @@ use Rattle.store.proofs.Effects.{accepted_asks}
 use Rattle.store.proofs.Views.{state_bounded}
 
 -- a number that is given, and not the root's
-given : (s : Store) (t : ℕ) → ltb s.count t ≡ false → eqb t 0 ≡ false → Used s.count t
-given s t m r = (omega (arith, eqb-false t 0 r), ltb-false s.count t m)
+given : (s : Store) (t : ℕ) → ltb s.tree.count t ≡ false → eqb t 0 ≡ false → Used s.tree.count t
+given s t m r = (omega (arith, eqb-false t 0 r), ltb-false s.tree.count t m)
 
 -- what is written stands there already
 same_at : {A : Type 0} (z : A) (column : List A) (k : ℕ) → get_or column k z ≡ z → set column k z ≡ column
@@ -64,49 +64,49 @@ module _ (s : Store) (e : in_form s ≡ true) where
   form = form_facts s e
 
   -- t commits or aborts, and the lists change so that they keep their form
-  finished_kept : (t state : ℕ) (w : Work) → Used s.count t → state ≤ has_aborted
-      → Lists s.count s.parent s.outcome w.listed w.order w.holder w.place → Form (finished_as s t state w)
+  finished_kept : (t state : ℕ) (w : work.Lists) → Used s.tree.count t → state ≤ has_aborted
+      → Lists s.tree.count s.tree.parent s.accesses.outcome w.listed w.order w.holder w.place → Form (finished_as s t state w)
   finished_kept t state w u b l = record {
     objects = form.objects;
-    tree = state_kept s.count s.parent s.state s.operation form.tree t state u b;
+    tree = state_kept s.tree.count s.tree.parent s.tree.state s.accesses.operation form.tree t state u b;
     accesses = form.accesses;
     lists = l;
   }
 
-  committed_kept : (t : ℕ) → Used s.count t → Form (committed s t)
+  committed_kept : (t : ℕ) → Used s.tree.count t → Form (committed s t)
   committed_kept t u = finished_kept t has_committed _ u (omega arith)
-      (moved_kept s.count s.parent s.state s.operation s.outcome s.listed s.order s.holder s.place form.tree form.lists t u)
+      (moved_kept s.tree.count s.tree.parent s.tree.state s.accesses.operation s.accesses.outcome s.lists.listed s.lists.order s.lists.holder s.lists.place form.tree form.lists t u)
 
-  aborted_kept : (t : ℕ) → Used s.count t → Form (aborted s t)
+  aborted_kept : (t : ℕ) → Used s.tree.count t → Form (aborted s t)
   aborted_kept t u = finished_kept t has_aborted _ u (omega arith)
-      (dropped_kept s.count s.parent s.state s.operation s.outcome s.listed s.order s.holder s.place form.tree form.lists
-      (λ x. at_or_above s.parent (at s.holder x) t))
+      (dropped_kept s.tree.count s.tree.parent s.tree.state s.accesses.operation s.accesses.outcome s.lists.listed s.lists.order s.lists.holder s.lists.place form.tree form.lists
+      (λ x. at_or_above s.tree.parent (at s.lists.holder x) t))
 
   -- the asking access, of which nothing is on record yet
   module _ (sized : Sized s) (t : ℕ) (asking : Askable s t) where
-    used : Used s.count t
+    used : Used s.tree.count t
     used = (asking.some, asking.known)
 
     row : t < rows_most
     row = omega (arith, asking.known, form.tree.few)
 
-    unlisted : at s.place t ≡ 0
+    unlisted : at s.lists.place t ≡ 0
     unlisted = unanswered_unlisted _ _ _ _ _ _ _ form.lists t row asking.blank
 
     -- the result has a shape that the operation allows
-    result_kept : (o : Operation) → asked_at s (at s.object t) t ≡ Fit o → Form (responded s t (result_of (asking_of s t)))
+    result_kept : (o : Operation) → asked_at s (at s.accesses.object t) t ≡ Some o → Form (responded s t (result_of (asking_of s t)))
     result_kept o fit =
-        let state = state_for s (at s.object t) t in
-        let has = state_bounded s e (at s.object t) t (form.accesses.known t row (used, asking.asks)) asking.known in
-        let shape = answers_recalled (kind_at s (at s.object t)) (at s.operation t) (at_z s.argument t) o state fit has.0 has.1 in
+        let state = state_for s (at s.accesses.object t) t in
+        let has = state_bounded s e (at s.accesses.object t) t (form.accesses.known t row (used, asking.asks)) asking.known in
+        let shape = answers_recalled (kind_at s (at s.accesses.object t)) (at s.accesses.operation t) (at_z s.accesses.argument t) o state fit has.0 has.1 in
         let r = numbers_of (step_of state o).outcome in
         rw fit
         (record {
           objects = form.objects;
           tree = form.tree;
-          accesses = answer_kept s.objects s.kind s.count s.object s.operation s.argument s.outcome s.value form.accesses
+          accesses = answer_kept s.objects.count s.objects.kind s.tree.count s.accesses.object s.accesses.operation s.accesses.argument s.accesses.outcome s.accesses.value form.accesses
               t r.a r.b o (step_of state o).outcome (used, asking.asks) fit shape (omega (arith, row, sized.outcome)) (omega (arith, row, sized.value));
-          lists = answered_kept s.count s.parent s.state s.operation s.outcome s.listed s.order s.holder s.place form.tree form.lists
+          lists = answered_kept s.tree.count s.tree.parent s.tree.state s.accesses.operation s.accesses.outcome s.lists.listed s.lists.order s.lists.holder s.lists.place form.tree form.lists
               t (r.a + 1) used unlisted (λ z. omega arith) (omega (arith, row, sized.outcome))
               (omega (arith, sized.order, has_place s t asking)) (omega (arith, row, sized.holder)) (omega (arith, row, sized.place));
         })
@@ -115,43 +115,43 @@ module _ (s : Store) (e : in_form s ≡ true) where
     responded_kept = let f = form.accesses.fit t row (used, asking.asks) in result_kept f.ask f.fit
 
   -- the next number is free
-  module _ (sized : Sized s) (free : s.count < count_most) where
+  module _ (sized : Sized s) (free : s.tree.count < count_most) where
     abbrev next : ℕ
-    next = s.count + 1
+    next = s.tree.count + 1
 
     -- its row has zeros
-    next_blank : Blank (at s.object next) (at s.operation next) (at_z s.argument next) (at s.outcome next) (at_z s.value next)
+    next_blank : Blank (at s.accesses.object next) (at s.accesses.operation next) (at_z s.accesses.argument next) (at s.accesses.outcome next) (at_z s.accesses.value next)
     next_blank = form.accesses.blank next (omega arith) (λ a. omega (arith, a.0.1))
 
     abbrev Asks : Request → Type 0
     Asks r =
-        Accesses s.objects s.kind next (set s.object next r.object) (set s.operation next r.operation) (set s.argument next r.argument)
-        s.outcome s.value
+        Accesses s.objects.count s.objects.kind next (set s.accesses.object next r.object) (set s.accesses.operation next r.operation) (set s.accesses.argument next r.argument)
+        s.accesses.outcome s.accesses.value
 
     asks_fine : (child : Child) → (no_object s child).when ≡ false → (unfit s child).when ≡ false → Asks (request_of child)
     asks_fine C.Plain known fit =
         rw (
-          same_at 0 s.object next next_blank.no_object_lem,
-          same_at 0 s.operation next next_blank.no_operation,
-          same_at (pos 0) s.argument next next_blank.no_argument,
+          same_at 0 s.accesses.object next next_blank.no_object_lem,
+          same_at 0 s.accesses.operation next next_blank.no_operation,
+          same_at (pos 0) s.accesses.argument next next_blank.no_argument,
         )
-        (plain_created s.objects s.kind s.count s.object s.operation s.argument s.outcome s.value form.accesses)
+        (plain_created s.objects.count s.objects.kind s.tree.count s.accesses.object s.accesses.operation s.accesses.argument s.accesses.outcome s.accesses.value form.accesses)
     asks_fine (C.Access r) known fit =
         let f = fitting (decode_of (kind_at s r.object) r.operation r.argument) fit in
         let number = fit_number (kind_at s r.object) r.operation r.argument f.0 f.1 in
-        access_created s.objects s.kind s.count s.object s.operation s.argument s.outcome s.value form.accesses
-        r.object r.operation r.argument f.0 free (leb-false s.objects r.object known) (λ z. omega (arith, number.0)) f.1
+        access_created s.objects.count s.objects.kind s.tree.count s.accesses.object s.accesses.operation s.accesses.argument s.accesses.outcome s.accesses.value form.accesses
+        r.object r.operation r.argument f.0 free (leb-false s.objects.count r.object known) (λ z. omega (arith, number.0)) f.1
         (omega (arith, sized.object)) (omega (arith, sized.operation)) (omega (arith, sized.argument))
 
     -- p's new child
-    created_kept : (p : ℕ) (r : Request) → p ≤ s.count → at s.operation p ≡ 0 → Asks r → Form (created s p r)
+    created_kept : (p : ℕ) (r : Request) → p ≤ s.tree.count → at s.accesses.operation p ≡ 0 → Asks r → Form (created s p r)
     created_kept p r known plain a = record {
       objects = form.objects;
-      tree = tree_created s.count s.parent s.state s.operation form.tree p (set s.operation next r.operation) free known plain
-          (root_plain s.objects s.kind s.count s.object s.operation s.argument s.outcome s.value form.accesses)
-          (set_next s.operation s.count r.operation);
+      tree = tree_created s.tree.count s.tree.parent s.tree.state s.accesses.operation form.tree p (set s.accesses.operation next r.operation) free known plain
+          (root_plain s.objects.count s.objects.kind s.tree.count s.accesses.object s.accesses.operation s.accesses.argument s.accesses.outcome s.accesses.value form.accesses)
+          (set_next s.accesses.operation s.tree.count r.operation);
       accesses = a;
-      lists = lists_created s.count s.parent s.state s.operation s.outcome s.listed s.order s.holder s.place form.tree form.lists p;
+      lists = lists_created s.tree.count s.tree.parent s.tree.state s.accesses.operation s.accesses.outcome s.lists.listed s.lists.order s.lists.holder s.lists.place form.tree form.lists p;
     }
 
 -- What a call tested is what its change of the store needs: `n i` says that the i-th of its refusals does not hold.
@@ -172,8 +172,8 @@ module _ (s : Store) (t : ℕ) (e : in_form s ≡ true) where
 pub create_kept : (s : Store) (p : ℕ) (child : Child) → in_form s ≡ true → Sized s → in_form (create_of s p child).store ≡ true
 unfolding create_of
 create_kept s p child e sized = handed_back (λ z. in_form z ≡ true) s (create_refusals s p child) _ e
-    (λ n. let free = leb-false count_most s.count (n 7 (omega arith)) in
-    facts_form _ (created_kept s e sized free p (request_of child) (ltb-false s.count p (n 1 (omega arith))) (eqb-true (at s.operation p) 0 (not-false _ (n 2 (omega arith))))
+    (λ n. let free = leb-false count_most s.tree.count (n 7 (omega arith)) in
+    facts_form _ (created_kept s e sized free p (request_of child) (ltb-false s.tree.count p (n 1 (omega arith))) (eqb-true (at s.accesses.operation p) 0 (not-false _ (n 2 (omega arith))))
     (asks_fine s e sized free child (n 5 (omega arith)) (n 6 (omega arith)))))
 
 -- each object of an opening opens
@@ -189,13 +189,13 @@ store_kept objects kind opening f =
 
 -- the objects of an opened store: each as it was given, and zeros past them
 module _ (kinds : List ℕ) (openings : List ℤ) where
-  pub kind_at_lem : (o : ℕ) → o < length kinds → o < objects_most → at (opened_store kinds openings).kind o ≡ at kinds o
+  pub kind_at_lem : (o : ℕ) → o < length kinds → o < objects_most → at (opened_store kinds openings).objects.kind o ≡ at kinds o
   kind_at_lem o h b = set_at (at kinds) (length kinds) o (replicate objects_most 0) 0 h (rw length-replicate b)
 
-  pub opening_at : (o : ℕ) → o < length kinds → o < objects_most → at_z (opened_store kinds openings).opening o ≡ at_z openings o
+  pub opening_at : (o : ℕ) → o < length kinds → o < objects_most → at_z (opened_store kinds openings).objects.opening o ≡ at_z openings o
   opening_at o h b = set_at (at_z openings) (length kinds) o (replicate objects_most (pos 0)) (pos 0) h (rw length-replicate b)
 
-  opened_objects : openable kinds openings ≡ true → Objects (length kinds) (opened_store kinds openings).kind (opened_store kinds openings).opening
+  opened_objects : openable kinds openings ≡ true → Objects (length kinds) (opened_store kinds openings).objects.kind (opened_store kinds openings).objects.opening
   opened_objects e =
       let most = few kinds openings e in
       record {

@@ -1,6 +1,8 @@
 pub mod Refusals
 pub mod Opens
 pub mod Facts
+pub mod Found
+pub mod Laid
 pub mod Finishing
 pub mod Asking
 pub mod Responding

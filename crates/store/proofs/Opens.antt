@@ -1,6 +1,6 @@
 -- The ways of `open`.
 use Prim.Native.Nat.{ℕ}
-use mathlib.Core.Path.{◌≡◌, refl, sym, ◌∙◌}
+use mathlib.Core.Path.{◌≡◌, refl, sym}
 use mathlib.Core.Bool.{Bool, true, false, true≢false, cond}
 use mathlib.Core.Logic.{◌↔◌, ⊎_elim}
 use mathlib.Core.List.{List, []}
@@ -8,29 +8,25 @@ use native.Mathlib.Omega.{arith}
 use lib.IntN.{ℤ, pos}
 use lib.ListN.{length, replicate}
 use Rattle.below.proofs.Tests.{bool_or}
-use Rattle.below.specs.Below.{set_below}
-use Rattle.columns.specs.Column.{at, at_z, rows_most, places_most}
+use Rattle.columns.specs.Column.{rows_most, places_most}
 use Rattle.columns.specs.Work.{work, list_in}
 use Rattle.columns.proofs.Work.{work_none, only_nil}
 use Rattle.store.specs.declared.Store.{Store}
 use Rattle.store.specs.Lists.{list_of}
 use Rattle.refusal.specs.Open.{openable}
-use Rattle.store.specs.Open.{store_of, empty_store, opened_store, open_of}
+use Rattle.store.specs.Open.{empty_store, opened_store, open_of}
 use Rattle.refusal.specs.Refusal.{answer_of}
-use Rattle.refusal.proofs.Opens.{even}
 use Rattle.store.specs.Refusal.{reply_of}
 
 module _ (kinds : List ℕ) (openings : List ℤ) where
   -- the two ways of `open`
-  pub open_refused : (b : Bool) → b ≡ openable kinds openings → b ≡ false → reply_of empty_store (answer_of 14 0 (pos 0)) ≡ open_of kinds openings
+  pub open_refused : openable kinds openings ≡ false → reply_of empty_store (answer_of 14 0 (pos 0)) ≡ open_of kinds openings
   unfolding open_of
-  open_refused b q f = rw (← q, f)
+  open_refused e = rw e
 
-  pub open_done : (b : Bool) (store : Store) (kind : List ℕ) (opening : List ℤ) → b ≡ openable kinds openings → b ≡ true → store ≡ store_of (length kinds) kind opening
-      → kind ≡ set_below (length kinds) (at kinds) (replicate 64 0) → opening ≡ set_below (length openings) (at_z openings) (replicate 64 (pos 0))
-      → reply_of store (answer_of 0 (length kinds) (pos 0)) ≡ open_of kinds openings
+  pub open_done : openable kinds openings ≡ true → reply_of (opened_store kinds openings) (answer_of 0 (length kinds) (pos 0)) ≡ open_of kinds openings
   unfolding open_of
-  open_done b store kind opening q t e k o = rw (← q, t, e, k, o, even kinds openings (sym q ∙ t))
+  open_done e = rw e
 
 -- 14 is given exactly when something does not fit, and 0 exactly when all does
 pub open_code : (kinds : List ℕ) (openings : List ℤ)

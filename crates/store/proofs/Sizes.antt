@@ -52,11 +52,11 @@ module _ (s : Store) (z : Sized s) where
   created_sized p r = record {
     kind = z.kind;
     opening = z.opening;
-    parent = length-set s.parent (s.count + 1) p ∙ z.parent;
+    parent = length-set s.tree.parent (s.tree.count + 1) p ∙ z.parent;
     state = z.state;
-    object = length-set s.object (s.count + 1) r.object ∙ z.object;
-    operation = length-set s.operation (s.count + 1) r.operation ∙ z.operation;
-    argument = length-set s.argument (s.count + 1) r.argument ∙ z.argument;
+    object = length-set s.accesses.object (s.tree.count + 1) r.object ∙ z.object;
+    operation = length-set s.accesses.operation (s.tree.count + 1) r.operation ∙ z.operation;
+    argument = length-set s.accesses.argument (s.tree.count + 1) r.argument ∙ z.argument;
     outcome = z.outcome;
     value = z.value;
     order = z.order;
@@ -73,19 +73,19 @@ module _ (s : Store) (z : Sized s) where
     object = z.object;
     operation = z.operation;
     argument = z.argument;
-    outcome = length-set s.outcome t (result.a + 1) ∙ z.outcome;
-    value = length-set s.value t result.b ∙ z.value;
-    order = length-set s.order s.listed t ∙ z.order;
-    holder = length-set s.holder t t ∙ z.holder;
-    place = length-set s.place t (s.listed + 1) ∙ z.place;
+    outcome = length-set s.accesses.outcome t (result.a + 1) ∙ z.outcome;
+    value = length-set s.accesses.value t result.b ∙ z.value;
+    order = length-set s.lists.order s.lists.listed t ∙ z.order;
+    holder = length-set s.lists.holder t t ∙ z.holder;
+    place = length-set s.lists.place t (s.lists.listed + 1) ∙ z.place;
   }
 
-  finished_sized : (t state : ℕ) (l holder : List ℕ) → length holder ≡ length s.holder → Sized (finished_as s t state (work_of l holder))
+  finished_sized : (t state : ℕ) (l holder : List ℕ) → length holder ≡ length s.lists.holder → Sized (finished_as s t state (work_of l holder))
   finished_sized t state l holder h = record {
     kind = z.kind;
     opening = z.opening;
     parent = z.parent;
-    state = length-set s.state t state ∙ z.state;
+    state = length-set s.tree.state t state ∙ z.state;
     object = z.object;
     operation = z.operation;
     argument = z.argument;

@@ -3,7 +3,7 @@ use Rattle.promise.specs.Sole.{Sole}
 use Rattle.promise.proofs.Sole.{sole}
 use Rattle.store.proofs as of
 
-«open» : Sole 1 of.Store.«open».Kinds.ps of.Store.«open».Kinds.r of.Store.«open».Reads.Learnt
+«open» : Sole 2 of.Store.«open».Kinds.ps of.Store.«open».Kinds.r of.Store.«open».Reads.Learnt
 «open» κs a x y s t = sole
 
 create : Sole 0 of.Store.create.Kinds.ps of.Store.create.Kinds.r of.Store.create.Reads.Learnt

@@ -1,14 +1,12 @@
 -- What is claimed of the answers: the order of a call's refusals, and when a response waits. Source: document 01, "Calls, answers and their order" and
 -- "Lists of work", its last paragraph.
-use Rattle.std.specs.Prelude.{ℕ, ◌<◌, ◌≤◌, ◌≡◌, true, false, ◌↔◌, List, pos, length}
+use Rattle.std.specs.Prelude.{ℕ, ◌<◌, ◌≤◌, ◌≡◌, true, false, ◌↔◌, List, pos, length, Some}
 use Rattle.kinds.specs.declared.Answered.{Answered}
-use Rattle.kinds.specs.declared.Decoded.TheVariants.{Fit}
 use Rattle.kinds.specs.Kinds.{conflict_of, step_of}
 use Rattle.kinds.specs.Outcome.{numbers_of}
 use Rattle.columns.specs.Column.{at}
 use Rattle.columns.specs.Tree.{at_or_above}
 use Rattle.columns.specs.Work.{Found}
-use Rattle.replay.specs.declared.access.Recorded.TheVariants.{As}
 use Rattle.store.specs.declared.Store.{Store}
 use Rattle.refusal.specs.declared.Answer.{Answer}
 use Rattle.store.specs.declared.Reply.{Reply}
@@ -31,16 +29,16 @@ pub record Decided (s : Store) (refusals : List Refusal) (done reply : Reply) : 
 
 -- the asking operation of t and its result: what the serial object gives after the view's operations are applied in order from the opening value
 pub record Asking (s : Store) (t : ℕ) (asking : Answered) : Type 0 where
-  pub asked : asked_at s (at s.object t) t ≡ Fit asking.operation
-  pub result : asking.outcome ≡ (step_of (state_for s (at s.object t) t) asking.operation).outcome
+  pub asked : asked_at s (at s.accesses.object t) t ≡ Some asking.operation
+  pub result : asking.outcome ≡ (step_of (state_for s (at s.accesses.object t) t) asking.operation).outcome
 
 -- access x on the same object, on the list of a holder h not at or above the asking one, conflicts with the asking operation and its result
 pub record Conflicting (s : Store) (t : ℕ) (asking : Answered) (h x : ℕ) : Type 0 where
-  pub listed : Found x (list_of s (at s.object t) h)
-  pub outside : at_or_above s.parent t h ≡ false
+  pub listed : Found x (list_of s (at s.accesses.object t) h)
+  pub outside : at_or_above s.tree.parent t h ≡ false
   pub held : Answered
-  pub recorded : recorded_at s (at s.object t) x ≡ As held
-  pub conflicts : conflict_of (kind_at s (at s.object t)) asking held ≡ true
+  pub recorded : recorded_at s (at s.accesses.object t) x ≡ Some held
+  pub conflicts : conflict_of (kind_at s (at s.accesses.object t)) asking held ≡ true
 
 -- there is such an access
 pub record Blocked (s : Store) (t : ℕ) : Type 0 where

@@ -5,7 +5,7 @@ use Rattle.store.specs.declared.Store.{Store}
 
 unfoldable pub in_form : Store → Bool
 in_form s =
-    objects_fine s.objects s.kind s.opening
-    && (tree_fine s.count s.parent s.state s.operation
-    && (accesses_fine s.objects s.kind s.count s.object s.operation s.argument s.outcome s.value
-    && lists_fine s.count s.parent s.outcome s.listed s.order s.holder s.place))
+    objects_fine s.objects.count s.objects.kind s.objects.opening
+    && (tree_fine s.tree.count s.tree.parent s.tree.state s.accesses.operation
+    && (accesses_fine s.objects.count s.objects.kind s.tree.count s.accesses.object s.accesses.operation s.accesses.argument s.accesses.outcome s.accesses.value
+    && lists_fine s.tree.count s.tree.parent s.accesses.outcome s.lists.listed s.lists.order s.lists.holder s.lists.place))

@@ -12,21 +12,29 @@ use Rattle.store.specs.Refusal.{reply_of}
 -- the store with these objects, numbered from 0 in the order of the opening, and no transactions
 abbrev pub store_of : ℕ → List ℕ → List ℤ → Store
 store_of objects kind opening = record {
-  objects = objects;
-  kind = kind;
-  opening = opening;
-  count = 0;
-  parent = replicate rows_most 0;
-  state = replicate rows_most 0;
-  object = replicate rows_most 0;
-  operation = replicate rows_most 0;
-  argument = replicate rows_most (pos 0);
-  outcome = replicate rows_most 0;
-  value = replicate rows_most (pos 0);
-  listed = 0;
-  order = replicate places_most 0;
-  holder = replicate rows_most 0;
-  place = replicate rows_most 0;
+  objects = record {
+    count = objects;
+    kind = kind;
+    opening = opening;
+  };
+  tree = record {
+    count = 0;
+    parent = replicate rows_most 0;
+    state = replicate rows_most 0;
+  };
+  accesses = record {
+    object = replicate rows_most 0;
+    operation = replicate rows_most 0;
+    argument = replicate rows_most (pos 0);
+    outcome = replicate rows_most 0;
+    value = replicate rows_most (pos 0);
+  };
+  lists = record {
+    listed = 0;
+    order = replicate places_most 0;
+    holder = replicate rows_most 0;
+    place = replicate rows_most 0;
+  };
 }
 
 -- the store with no objects and no transactions

@@ -22,7 +22,7 @@ malformed s = refuse 15 (not (in_form s))
 
 -- 1: no such transaction (for create: the parent)
 abbrev pub missing : Store → ℕ → Refusal
-missing s t = refuse 1 (ltb s.count t)
+missing s t = refuse 1 (ltb s.tree.count t)
 
 -- 2: respond, commit or abort of the root
 abbrev pub is_root : ℕ → Refusal
@@ -30,8 +30,8 @@ is_root t = refuse 2 (eqb t 0)
 
 -- 4: the transaction, or the named parent, has itself committed or aborted
 abbrev pub finished : Store → ℕ → Refusal
-finished s t = refuse 4 (not (eqb (at s.state t) is_open))
+finished s t = refuse 4 (not (eqb (at s.tree.state t) is_open))
 
 -- 5: some transaction above it has aborted
 abbrev pub orphaned : Store → ℕ → Refusal
-orphaned s t = refuse 5 (aborted_up s.parent s.state (at s.parent t))
+orphaned s t = refuse 5 (aborted_up s.tree.parent s.tree.state (at s.tree.parent t))

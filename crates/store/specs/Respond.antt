@@ -1,73 +1,79 @@
 -- Respond. Source: document 01, "Calls, answers and their order" and "Lists of work".
-use Rattle.std.specs.Prelude.{ℕ, ◌+◌, not, List, [], ◌∷◌, ◌++◌, pos, set, eqb, ltb}
-use Rattle.below.specs.Below.{first_below}
+use Rattle.std.specs.Prelude.{ℕ, ◌+◌, Bool, not, List, [], ◌∷◌, ◌++◌, pos, set, eqb, ltb, Option, Some, None}
+use Rattle.below.specs.Below.{first_below, found_below}
 use Rattle.kinds.specs.declared.State.{State}
-use Rattle.kinds.specs.declared.Decoded.{Decoded}
-use Rattle.kinds.specs.declared.Decoded.TheVariants.{Fit, Unfit}
 use Rattle.kinds.specs.declared.outcome.Outcome.TheVariants.{Fail}
 use Rattle.kinds.specs.declared.outcome.Numbers.{Numbers}
 use Rattle.kinds.specs.Kinds.{step_of}
 use Rattle.kinds.specs.Outcome.{numbers_of}
 use Rattle.columns.specs.Column.{at}
-use Rattle.replay.specs.declared.access.Recorded.{Recorded}
-use Rattle.replay.specs.declared.access.Recorded.TheVariants.{As, Nothing}
 use Rattle.wait.specs.Wait.{blocks}
 use Rattle.store.specs.declared.Store.{Store}
 use Rattle.store.specs.declared.Reply.{Reply}
 use Rattle.store.specs.Lists.{rows_of, kind_at, asked_at, recorded_at, state_for}
 use Rattle.refusal.specs.Refusal.{Refusal, answer_of, refuse}
 use Rattle.store.specs.Refusal.{reply_of, decide, malformed, missing, is_root, finished, orphaned}
+use Rattle.kinds.specs.declared.Operation.{Operation}
+use Rattle.kinds.specs.declared.Answered.{Answered}
 
 -- what the serial object answers
-abbrev pub answer_in : State → Decoded → Recorded
-answer_in state (Fit o) = As (record { operation = o; outcome = (step_of state o).outcome })
-answer_in state Unfit = Nothing
+abbrev pub answer_in : State → Option Operation → Option Answered
+answer_in state (Some o) = Some (record { operation = o; outcome = (step_of state o).outcome })
+answer_in state None = None
 
 -- the asking operation with its result: what the serial object gives after the view's operations
-abbrev pub asking_of : Store → ℕ → Recorded
-asking_of s t = answer_in (state_for s (at s.object t) t) (asked_at s (at s.object t) t)
+abbrev pub asking_of : Store → ℕ → Option Answered
+asking_of s t = answer_in (state_for s (at s.accesses.object t) t) (asked_at s (at s.accesses.object t) t)
 
--- the lowest-numbered access on the same object, on the list of a holder not at or above the asking one, that conflicts; past the rows where there is none
-abbrev pub wait_for : Store → ℕ → Recorded → ℕ
-wait_for s t (As asking) =
-    first_below (rows_of s) (blocks s.parent s.holder s.place s.object (recorded_at s (at s.object t)) (kind_at s (at s.object t)) (at s.object t) t asking)
-wait_for s t Nothing = rows_of s
+-- an access on the same object, on the list of a holder not at or above the asking one, that conflicts
+abbrev pub blocks_for : Store → ℕ → Answered → ℕ → Bool
+blocks_for s t asking =
+    blocks s.tree.parent s.lists.holder s.lists.place s.accesses.object (recorded_at s (at s.accesses.object t)) (kind_at s (at s.accesses.object t)) (at s.accesses.object t) t asking
+
+-- the lowest-numbered such access; past the rows where there is none
+abbrev pub wait_for : Store → ℕ → Option Answered → ℕ
+wait_for s t (Some asking) = first_below (rows_of s) (blocks_for s t asking)
+wait_for s t None = rows_of s
+
+-- the lowest-numbered such access, if there is one
+abbrev pub awaited : Store → ℕ → Answered → Option ℕ
+awaited s t asking = found_below (rows_of s) (blocks_for s t asking)
 
 -- a and b of the result; where nothing fits, which no form allows, those of FAIL
-abbrev pub result_of : Recorded → Numbers
-result_of (As asking) = numbers_of asking.outcome
-result_of Nothing = numbers_of Fail
+abbrev pub result_of : Option Answered → Numbers
+result_of (Some asking) = numbers_of asking.outcome
+result_of None = numbers_of Fail
 
 -- 9: respond to a plain transaction
 abbrev pub is_plain : Store → ℕ → Refusal
-is_plain s t = refuse 9 (eqb (at s.operation t) 0)
+is_plain s t = refuse 9 (eqb (at s.accesses.operation t) 0)
 
 -- 10: this access was responded to already
 abbrev pub answered : Store → ℕ → Refusal
-answered s t = refuse 10 (not (eqb (at s.outcome t) 0))
+answered s t = refuse 10 (not (eqb (at s.accesses.outcome t) 0))
 
 -- 13: must wait; the holder of its list as a, the access as b
 abbrev pub must_wait : Store → ℕ → ℕ → Refusal
-must_wait s t x = record { when = ltb x (rows_of s); answer = answer_of 13 (at s.holder x) (pos x) }
+must_wait s t x = record { when = ltb x (rows_of s); answer = answer_of 13 (at s.lists.holder x) (pos x) }
 
 -- respond puts the access on its own list, with its result on record
 abbrev pub responded : Store → ℕ → Numbers → Store
 responded s t result = record {
   objects = s.objects;
-  kind = s.kind;
-  opening = s.opening;
-  count = s.count;
-  parent = s.parent;
-  state = s.state;
-  object = s.object;
-  operation = s.operation;
-  argument = s.argument;
-  outcome = set s.outcome t (result.a + 1);
-  value = set s.value t result.b;
-  listed = s.listed + 1;
-  order = set s.order s.listed t;
-  holder = set s.holder t t;
-  place = set s.place t (s.listed + 1);
+  tree = s.tree;
+  accesses = record {
+    object = s.accesses.object;
+    operation = s.accesses.operation;
+    argument = s.accesses.argument;
+    outcome = set s.accesses.outcome t (result.a + 1);
+    value = set s.accesses.value t result.b;
+  };
+  lists = record {
+    listed = s.lists.listed + 1;
+    order = set s.lists.order s.lists.listed t;
+    holder = set s.lists.holder t t;
+    place = set s.lists.place t (s.lists.listed + 1);
+  };
 }
 
 -- all but the last; none of them asks the object

@@ -6,86 +6,53 @@ ghost use Rattle.refusal.specs.Refusal.{answer_of};
 ghost use Rattle.store.specs.Refusal.{reply_of};
 
 use crate::{Reply, Store};
-use columns::order::{Work, dropped, moved};
-use columns::tree::{ABORTED, COMMITTED, first_open_child};
-use refusal::{Answer, finish_code, has_open_child, is_unanswered, refused};
+use columns::lists::Lists;
+use columns::tree::{ABORTED, COMMITTED};
+use refusal::{Answer, Reason, check_finish, child_answer, is_unanswered, open_child};
 
 impl Store {
     // Done: in its new state, with the lists as they are then.
-    fn finished(mut self, t: u32, state: u8, work: Work) -> Reply
+    fn finished(mut self, t: u32, state: u8, lists: Lists) -> Reply
         requires { t < rows_most }
-        ensures { result ≡ reply_of (finished_as self t state work) (answer_of 0 t (pos 0)) }
+        ensures { result ≡ reply_of (finished_as self t state lists) (answer_of 0 t (pos 0)) }
     {
-        let k = t as usize;
-        self.state[k] = state;
-        self.listed = work.listed;
-        let order = work.order;
-        self.order = order;
-        let holder = work.holder;
-        self.holder = holder;
-        let place = work.place;
-        self.place = place;
-        Reply {
-            store: self,
-            answer: Answer {
-                code: 0,
-                a: t,
-                b: 0,
-            },
-        }
+        self.tree.state[t as usize] = state;
+        self.lists = lists;
+        self.answered(Answer::done(t, 0))
     }
 
+    #[tactic(auto, using(crate::proofs::Finishing::row, crate::proofs::Finishing::few, crate::proofs::Finishing::dropping, crate::proofs::Finishing::commit_refused, crate::proofs::Finishing::early_small, crate::proofs::Finishing::commit_early, crate::proofs::Finishing::commit_unanswered))]
     pub fn commit(mut self, t: u32) -> Reply
         ensures { result ≡ commit_of self t }
     {
         let k = t as usize;
         let fine = self.in_form();
-        let code = finish_code(fine, self.count, &self.parent, &self.state, k);
-        if code != 0 {
-            return Reply {
-                store: self,
-                answer: refused(code),
-            };
+        if let Err(reason) = check_finish(fine, &self.tree, k) {
+            return self.answered(reason.into());
         }
-        let rows = self.count + 1;
-        let child = first_open_child(&self.parent, &self.state, rows, k);
-        if has_open_child(self.operation[k], child, rows) {
-            return Reply {
-                store: self,
-                answer: Answer {
-                    code: 11,
-                    a: child as u32,
-                    b: 0,
-                },
-            };
+        let rows = self.tree.rows();
+        let child = self.tree.first_open_child(rows, k);
+        if let Some(child) = open_child(self.accesses.operation[k], child) {
+            return self.answered(child_answer(child));
         }
-        if is_unanswered(self.operation[k], self.outcome[k]) {
-            return Reply {
-                store: self,
-                answer: refused(12),
-            };
+        if is_unanswered(self.accesses.operation[k], self.accesses.outcome[k]) {
+            return self.answered(Reason::Unanswered.into());
         }
-        let listed = self.listed;
-        let above = self.parent[k];
-        let work = moved(&self.order, listed, &self.holder, rows, k, above);
-        self.finished(t, COMMITTED, work)
+        let above = self.tree.parent[k];
+        let lists = self.lists.moved(rows, k, above);
+        self.finished(t, COMMITTED, lists)
     }
 
+    #[tactic(auto, using(crate::proofs::Finishing::row, crate::proofs::Finishing::dropping, crate::proofs::Finishing::abort_refused, crate::proofs::Finishing::abort_done))]
     pub fn abort(mut self, t: u32) -> Reply
         ensures { result ≡ abort_of self t }
     {
         let k = t as usize;
         let fine = self.in_form();
-        let code = finish_code(fine, self.count, &self.parent, &self.state, k);
-        if code != 0 {
-            return Reply {
-                store: self,
-                answer: refused(code),
-            };
+        if let Err(reason) = check_finish(fine, &self.tree, k) {
+            return self.answered(reason.into());
         }
-        let rows = self.count + 1;
-        let listed = self.listed;
-        let work = dropped(&self.parent, &self.order, listed, &self.holder, rows, k);
-        self.finished(t, ABORTED, work)
+        let lists = self.lists.dropped(&self.tree, k);
+        self.finished(t, ABORTED, lists)
     }
 }

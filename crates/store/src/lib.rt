@@ -7,33 +7,37 @@ mod formed;
 mod open;
 mod respond;
 
-use columns::order::PLACES;
-use columns::tree::ROWS;
-use form::OBJECTS;
+ghost use Rattle.std.specs.Prelude.{◌≡◌};
+ghost use Rattle.store.specs.Refusal.{reply_of};
+
+use columns::accesses::Accesses;
+use columns::lists::Lists;
+use columns::objects::Objects;
+use columns::tree::Tree;
 use refusal::Answer;
 
-// Flat columns, indexed by the transaction's own number; row 0 is the root's and stays zero. `kind` and `opening` are indexed by the object's.
+// A row of the columns is a transaction's, by its own number; row 0 is the root's and stays zero.
 #[derive(Clone, Copy)]
 pub struct Store {
-    pub objects: usize,
-    pub kind: [u8; OBJECTS],
-    pub opening: [i64; OBJECTS],
-    pub count: usize,
-    pub parent: [u16; ROWS],
-    pub state: [u8; ROWS],
-    pub object: [u8; ROWS],
-    pub operation: [u8; ROWS],
-    pub argument: [i64; ROWS],
-    pub outcome: [u8; ROWS],
-    pub value: [i64; ROWS],
-    pub listed: usize,
-    pub order: [u16; PLACES],
-    pub holder: [u16; ROWS],
-    pub place: [u16; ROWS],
+    pub objects: Objects,
+    pub tree: Tree,
+    pub accesses: Accesses,
+    pub lists: Lists,
 }
 
 #[derive(Clone, Copy)]
 pub struct Reply {
     pub store: Store,
     pub answer: Answer,
+}
+
+impl Store {
+    fn answered(self, answer: Answer) -> Reply
+        ensures { result ≡ reply_of self answer }
+    {
+        Reply {
+            store: self,
+            answer,
+        }
+    }
 }

@@ -1,86 +1,72 @@
 // Opening a store.
-ghost use Rattle.std.specs.Prelude.{◌≡◌, ◌≤◌, pos, length, replicate};
-ghost use Rattle.store.specs.Open.{store_of, open_of};
-ghost use Rattle.below.specs.Below.{set_below};
-ghost use Rattle.columns.specs.Column.{at, at_z};
+ghost use Rattle.std.specs.Prelude.{◌≡◌, ◌≤◌, length};
+ghost use Rattle.store.specs.Open.{store_of, opened_store, open_of};
 ghost use Rattle.form.specs.Form.{objects_most};
 
 use crate::{Reply, Store};
-use columns::order::PLACES;
-use columns::tree::ROWS;
-use form::OBJECTS;
-use refusal::{Answer, openable, refused};
+use columns::accesses::Accesses;
+use columns::lists::{Lists, PLACES};
+use columns::objects::{OBJECTS, Objects};
+use columns::tree::{ROWS, Tree};
+use refusal::{Answer, Reason, openable};
 
-fn kind_column(kinds: &[u8]) -> [u8; OBJECTS]
-    requires { length kinds.now ≤ objects_most }
-    ensures { result ≡ set_below (length kinds.now) (at kinds.now) (replicate objects_most 0) }
+fn objects_of(kinds: &[u8], openings: &[i64]) -> Objects
+    requires { (length kinds.now ≤ objects_most) × (length openings.now ≡ length kinds.now) }
+    ensures { result ≡ (opened_store kinds.now openings.now).objects }
 {
-    let mut column = [0u8; OBJECTS];
-    let mut i = 0;
-    while i < kinds.len() {
-        let k = i;
-        i += 1;
-        column[k] = kinds[k];
+    let count = kinds.len();
+    let mut kind = [0; OBJECTS];
+    kind[..count].copy_from_slice(kinds);
+    let mut opening = [0; OBJECTS];
+    opening[..count].copy_from_slice(openings);
+    Objects {
+        count,
+        kind,
+        opening,
     }
-    column
-}
-
-fn opening_column(openings: &[i64]) -> [i64; OBJECTS]
-    requires { length openings.now ≤ objects_most }
-    ensures { result ≡ set_below (length openings.now) (at_z openings.now) (replicate objects_most (pos 0)) }
-{
-    let mut column = [0i64; OBJECTS];
-    let mut i = 0;
-    while i < openings.len() {
-        let k = i;
-        i += 1;
-        column[k] = openings[k];
-    }
-    column
 }
 
 impl Store {
-    fn with_objects(objects: usize, kind: [u8; OBJECTS], opening: [i64; OBJECTS]) -> Store
-        ensures { result ≡ store_of objects kind opening }
+    // With these objects and no transactions.
+    fn with_objects(objects: Objects) -> Store
+        ensures { result ≡ store_of objects.count objects.kind objects.opening }
     {
         Store {
-            objects: objects,
-            kind: kind,
-            opening: opening,
-            count: 0,
-            parent: [0; ROWS],
-            state: [0; ROWS],
-            object: [0; ROWS],
-            operation: [0; ROWS],
-            argument: [0; ROWS],
-            outcome: [0; ROWS],
-            value: [0; ROWS],
-            listed: 0,
-            order: [0; PLACES],
-            holder: [0; ROWS],
-            place: [0; ROWS],
+            objects,
+            tree: Tree {
+                count: 0,
+                parent: [0; ROWS],
+                state: [0; ROWS],
+            },
+            accesses: Accesses {
+                object: [0; ROWS],
+                operation: [0; ROWS],
+                argument: [0; ROWS],
+                outcome: [0; ROWS],
+                value: [0; ROWS],
+            },
+            lists: Lists {
+                listed: 0,
+                order: [0; PLACES],
+                holder: [0; ROWS],
+                place: [0; ROWS],
+            },
         }
     }
 
     // Objects are numbered from 0 in the order of the opening. A refused opening gives the store with no objects and no transactions.
-    pub fn open<'a>(kinds: &'a [u8], openings: &'a [i64]) -> Reply
+    pub fn open(kinds: &[u8], openings: &[i64]) -> Reply
         ensures { result ≡ open_of kinds.now openings.now }
     {
         if !openable(kinds, openings) {
-            return Reply {
-                store: Store::with_objects(0, [0; OBJECTS], [0; OBJECTS]),
-                answer: refused(14),
+            let none = Objects {
+                count: 0,
+                kind: [0; OBJECTS],
+                opening: [0; OBJECTS],
             };
+            return Store::with_objects(none).answered(Reason::BadOpening.into());
         }
-        let objects = kinds.len();
-        let store = Store::with_objects(objects, kind_column(kinds), opening_column(openings));
-        Reply {
-            store: store,
-            answer: Answer {
-                code: 0,
-                a: objects as u32,
-                b: 0,
-            },
-        }
+        let objects = objects_of(kinds, openings);
+        Store::with_objects(objects).answered(Answer::done(objects.count as u32, 0))
     }
 }

@@ -20,13 +20,9 @@ fn run_named(rt: &(impl Files + Print + Eprint), path: &str) -> io::Result<()> {
     io::writer(rt).write_all(&output[..end])
 }
 
-fn run_argument(rt: &(impl Files + Print + Eprint), argument: String) -> io::Result<()> {
-    run_named(rt, argument.as_str())
-}
-
 fn main(rt: HostRuntime) -> io::Result<()> {
     for argument in env::args(&rt)?.skip(1) {
-        run_argument(&rt, argument)?;
+        run_named(&rt, &argument)?;
     }
     Ok(())
 }

@@ -11,33 +11,31 @@ use lib.IntN.{pos}
 use lib.Dec.{ltb, leb, eqb}
 use Rattle.below.proofs.Tests.{and_fst, and_snd}
 use Rattle.text.specs.Text.{number_most, minus}
-use Rattle.text.specs.Number.{is_digit, further, rest_of, first_of, number_at, on_number}
+use Rattle.text.specs.Number.{is_digit, further, rest_of, first_of, number_at, on_read}
 use Rattle.text.specs.Signed.{negative_at, signed_at}
-use Rattle.text.specs.declared.number.Number.{Number}
-use Rattle.text.specs.declared.number.Number.TheVariants.{Value, Wrong}
-use Rattle.text.specs.declared.signed.Signed.TheVariants as S
+use Rattle.std.specs.Prelude.{Option, Some, None}
 
-pub number_end : (stop : ℕ) (file : List ℕ) (at : ℕ) → length file ≤ at → number_at stop file at ≡ Wrong
+pub number_end : (stop : ℕ) (file : List ℕ) (at : ℕ) → length file ≤ at → number_at stop file at ≡ None
 unfolding number_at first_of
 number_end stop file at h = rw drop_of_length-le
 
 pub number_start : (stop : ℕ) (file : List ℕ) (at : ℕ) → at < length file
-    → number_at stop file at ≡ cond (is_digit (get_or file at 0)) (rest_of stop (drop (at + 1) file) (get_or file at 0 - 48) (at + 1)) Wrong
+    → number_at stop file at ≡ cond (is_digit (get_or file at 0)) (rest_of stop (drop (at + 1) file) (get_or file at 0 - 48) (at + 1)) None
 unfolding number_at first_of
 number_start stop file at h = rw (drop-cons file at 0, ← add-one at)
 
-pub rest_end : (stop : ℕ) (file : List ℕ) (v i : ℕ) → length file ≤ i → rest_of stop (drop i file) v i ≡ Wrong
+pub rest_end : (stop : ℕ) (file : List ℕ) (v i : ℕ) → length file ≤ i → rest_of stop (drop i file) v i ≡ None
 unfolding rest_of
 rest_end stop file v i h = rw drop_of_length-le
 
 -- what the byte at place i makes of the value v so far
-abbrev pub byte_more : ℕ → List ℕ → ℕ → ℕ → Number
+abbrev pub byte_more : ℕ → List ℕ → ℕ → ℕ → Option (ℕ × ℕ)
 byte_more stop file v i =
-    cond (eqb (get_or file i 0) stop) (Value v (i + 1))
+    cond (eqb (get_or file i 0) stop) (Some (v, i + 1))
     (cond (is_digit (get_or file i 0))
-    (cond (eqb v 0) Wrong
-    (cond (ltb number_most (further v (get_or file i 0))) Wrong (rest_of stop (drop (i + 1) file) (further v (get_or file i 0)) (i + 1))))
-    Wrong)
+    (cond (eqb v 0) None
+    (cond (ltb number_most (further v (get_or file i 0))) None (rest_of stop (drop (i + 1) file) (further v (get_or file i 0)) (i + 1))))
+    None)
 
 pub rest_step : (stop : ℕ) (file : List ℕ) (v i : ℕ) → i < length file → rest_of stop (drop i file) v i ≡ byte_more stop file v i
 unfolding rest_of
@@ -54,11 +52,11 @@ unfolding signed_at
 signed_minus stop file at e = rw (eq-eqb (get_or file at 0) minus e)
 
 pub signed_other : (stop : ℕ) (file : List ℕ) (at : ℕ) → (get_or file at 0 ≡ minus → ⊥)
-    → signed_at stop file at ≡ on_number (number_at stop file at) S.Wrong (λ v i. S.Value (pos v) i)
+    → signed_at stop file at ≡ on_read (number_at stop file at) None (λ v i. Some (pos v, i))
 unfolding signed_at
 signed_other stop file at n = rw (ne_eqb (get_or file at 0) minus n)
 
 -- past the end no minus stands, and no number
-pub signed_end : (stop : ℕ) (file : List ℕ) (at : ℕ) → length file ≤ at → signed_at stop file at ≡ S.Wrong
+pub signed_end : (stop : ℕ) (file : List ℕ) (at : ℕ) → length file ≤ at → signed_at stop file at ≡ None
 unfolding signed_at
 signed_end stop file at h = rw (get_or-eq_default file 0 {n = at} h, number_end stop file at h)

@@ -1,23 +1,20 @@
 -- Laws of the printed text, and of a buffer that texts are put into.
-use Prim.Native.Nat.{ℕ, zero, suc, zero-le, ◌+◌, ◌-◌, ◌/◌, ◌%◌, ◌^◌, ◌≤◌, ◌<◌}
+use Prim.Native.Nat.{ℕ, zero, suc, zero-le, ◌+◌, ◌/◌, ◌%◌, ◌^◌, ◌≤◌, ◌<◌}
 use mathlib.Core.Path.{◌≡◌, refl, sym, ◌∙◌, ap}
 use mathlib.Core.List.{List, [], ◌∷◌, ◌++◌}
-use mathlib.Core.Bool.{true, false, false≢true, true≢false}
 use native.Mathlib.Nat.{add-suc, add-zero, suc-add, pow-suc}
 use native.Mathlib.Omega.{arith}
 use borrow.Author.Tests.{lt-ltb, le-ltb}
 use lib.ListN.{length, set, length-append}
 use lib.Seq.{sets}
-use lib.Dec.{T}
-use lib.IntN.{ℤ, pos, negsuc, neg_ℤ, neg_ℤ-neg_ℤ, nat_abs, ◌+ℤ◌, ◌-ℤ◌}
-use lib.Signed.{lt_z, non_neg}
-use mir.Val.{SFits, Fits}
+use lib.IntN.{ℤ, pos, negsuc}
+use mir.Val.{SFits}
 use mir.Syntax.{w64}
 use Rattle.promise.proofs.Sole.{whole}
 use Rattle.below.proofs.Tests.{le_or, cases}
-use Rattle.text.specs.Puts.{Puts}
-use Rattle.text.specs.Text.{digits, decimal, signed_text, answer_text, minus, answer_most, codes_below}
-use Rattle.text.specs.Sign.{is_negative}
+use Rattle.text.specs.Puts.{Puts, Adds}
+use Rattle.text.specs.declared.print.Line.{Line}
+use Rattle.text.specs.Text.{digits, decimal, signed_text, answer_text, answer_most, codes_below}
 
 -- writing two texts joined is writing one and then the other
 sets_append : {A : Type 0} (l : List A) (i : ℕ) (s t : List A) → sets l i (s ++ t) ≡ sets (sets l i s) (i + length s) t
@@ -31,6 +28,9 @@ put_then {x} {y} {z} {s} {t} {i} {j} {k} p q =
       bytes = q.bytes ∙ rw (p.next, p.bytes) (sym (sets_append x i s t));
       room = q.room;
     }
+
+pub adds_then : {x y z : Line} {s t : List ℕ} → Adds x s y → Adds y t z → Adds x (s ++ t) z
+adds_then p q = record { same_buffer = q.same_buffer ∙ p.same_buffer; puts = put_then p.puts q.puts; kept = q.kept ∙ p.kept }
 
 -- no text at all
 pub put_none : (x : List ℕ) (i : ℕ) → i ≤ length x → Puts x i [] i x
@@ -73,44 +73,6 @@ digits_short (suc f) (suc k) n p =
 decimal_length : (k n : ℕ) → n < 10 ^ suc k → length (decimal n) ≤ suc k
 unfolding decimal
 decimal_length k n p = digits_short (suc n) k n p
-
-pub signed_negative : (z : ℤ) → is_negative z ≡ true → signed_text z ≡ (minus ∷ []) ++ decimal (nat_abs z)
-signed_negative (pos n) e = absurd (false≢true e)
-signed_negative (negsuc n) e = refl
-
-pub signed_plain : (z : ℤ) → is_negative z ≡ false → signed_text z ≡ decimal (nat_abs z)
-signed_plain (pos n) e = refl
-signed_plain (negsuc n) e = absurd (true≢false e)
-
-pub negative_test : (z : ℤ) → lt_z z (pos 0) ≡ is_negative z
-negative_test (pos n) = le-ltb n 0 zero-le
-negative_test (negsuc n) = refl
-
--- one more than a number below zero
-up_one : (n : ℕ) → negsuc n +ℤ pos 1 ≡ neg_ℤ (pos n)
-up_one zero = refl
-up_one (suc m) = simp (lt-ltb 1 (suc (suc m)) (omega arith)) (ap negsuc (omega arith))
-
-pub up_fits : (z : ℤ) → is_negative z ≡ true → SFits w64 z → SFits w64 (z +ℤ pos 1)
-up_fits (pos n) e f = absurd (false≢true e)
-up_fits (negsuc zero) e f = record { sfits = omega arith }
-up_fits (negsuc (suc m)) e f = rw up_one (record { sfits = omega (arith, f.sfits) })
-
-pub above_size : (z : ℤ) → is_negative z ≡ true → pos 0 -ℤ (z +ℤ pos 1) ≡ pos (nat_abs z - 1)
-above_size (pos n) e = absurd (false≢true e)
-above_size (negsuc n) e = rw (up_one, neg_ℤ-neg_ℤ) (ap pos (omega arith))
-
-pub size_fits : (z : ℤ) → SFits w64 z → nat_abs z ≤ 2 ^ 63
-size_fits (pos n) f = omega (arith, f.sfits)
-size_fits (negsuc n) f = omega (arith, f.sfits)
-
-pub size_some : (z : ℤ) → is_negative z ≡ true → 1 ≤ nat_abs z
-size_some (pos n) e = absurd (false≢true e)
-size_some (negsuc n) e = omega arith
-
-pub plain_cast : (z : ℤ) → is_negative z ≡ false → SFits w64 z → T (non_neg z) × Fits w64 (nat_abs z)
-plain_cast (pos n) e f = (tt, record { fits = omega (arith, f.sfits) })
-plain_cast (negsuc n) e f = absurd (true≢false e)
 
 signed_length : (z : ℤ) → SFits w64 z → length (signed_text z) ≤ 20
 signed_length (pos n) f = omega (arith, decimal_length 18 n (omega (arith, f.sfits)))

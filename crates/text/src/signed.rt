@@ -1,53 +1,28 @@
 // A number of the file that may have a minus in front.
-ghost use Rattle.std.specs.Prelude.{◌≡◌, pos, neg_ℤ};
+ghost use Rattle.std.specs.Prelude.{◌≡◌};
 ghost use Rattle.text.specs.Signed.{negative_at, signed_at};
 
-use crate::number::{Number, number_at};
-
-// A number that was read, with the place after its end byte.
-#[derive(Clone, Copy)]
-pub enum Signed {
-    Value(i64, usize),
-    Wrong,
-}
-
-fn widened(v: u32) -> i64
-    ensures { result ≡ pos v }
-{
-    v as i64
-}
-
-fn negated(v: u32) -> i64
-    ensures { result ≡ neg_ℤ (pos v) }
-{
-    -widened(v)
-}
+use crate::number::number_at;
 
 // The number that a minus stands before: any but 0.
-fn negative_at(file: &[u8], at: usize, stop: u8) -> Signed
+fn negative_at(file: &[u8], at: usize, stop: u8) -> Option<(i64, usize)>
     ensures { result ≡ negative_at stop file.now at }
 {
-    let Number::Value(v, next) = number_at(file, at, stop) else {
-        return Signed::Wrong;
-    };
+    let (v, next) = number_at(file, at, stop)?;
     if v == 0 {
-        return Signed::Wrong;
+        return None;
     }
-    Signed::Value(negated(v), next)
+    Some((-i64::from(v), next))
 }
 
-// The decimal number at a place, with or without a minus, ended by the byte `stop`.
-pub fn signed_at(file: &[u8], at: usize, stop: u8) -> Signed
+// The decimal number at a place, with or without a minus, ended by the byte `stop`, with the place after that byte.
+#[tactic(auto, using(crate::proofs::Numbers::signed_end, crate::proofs::Numbers::signed_minus, crate::proofs::Numbers::signed_other))]
+pub fn signed_at(file: &[u8], at: usize, stop: u8) -> Option<(i64, usize)>
     ensures { result ≡ signed_at stop file.now at }
 {
-    if file.len() <= at {
-        return Signed::Wrong;
-    }
-    if file[at] == b'-' {
+    if *file.get(at)? == b'-' {
         return negative_at(file, at + 1, stop);
     }
-    let Number::Value(v, next) = number_at(file, at, stop) else {
-        return Signed::Wrong;
-    };
-    Signed::Value(widened(v), next)
+    let (v, next) = number_at(file, at, stop)?;
+    Some((i64::from(v), next))
 }

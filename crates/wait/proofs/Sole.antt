@@ -3,5 +3,5 @@ use Rattle.promise.specs.Sole.{Sole}
 use Rattle.promise.proofs.Sole.{sole}
 use Rattle.wait.proofs as of
 
-first_wait : Sole 1 of.first_wait.Kinds.ps of.first_wait.Kinds.r of.first_wait.Reads.Learnt
+first_wait : Sole 4 of.Asking.first_wait.Kinds.ps of.Asking.first_wait.Kinds.r of.Asking.first_wait.Reads.Learnt
 first_wait κs a x y s t = sole

@@ -11,84 +11,45 @@ use lib.Seq.{drop-cons}
 use lib.Dec.{eqb}
 use borrow.Author.Tests.{eqb-true}
 use Rattle.text.specs.Text.{line_end, space, decimal, signed_text}
-use Rattle.text.specs.Number.{number_at, on_number}
-use Rattle.text.specs.Signed.{signed_at, on_signed}
-use Rattle.text.specs.declared.number.Number.{Number}
-use Rattle.text.specs.declared.number.Number.TheVariants as N
-use Rattle.text.specs.declared.signed.Signed.{Signed}
-use Rattle.text.specs.declared.signed.Signed.TheVariants as S
+use Rattle.std.specs.Prelude.{Option, Some, None}
+use Rattle.std.proofs.lemmas.Option.{same_Some}
+use Rattle.text.specs.Number.{number_at, on_read}
+use Rattle.text.specs.Signed.{signed_at}
 use Rattle.below.proofs.Tests.{either}
 use Rattle.written.specs.Written.{joined, line_text, Each, InRange, Lines}
 use Rattle.written.specs.Line.{letter_at}
-use Rattle.written.specs.Items.{Item, item, none}
 use Rattle.written.proofs.Letters.{letter_in}
 use Rattle.written.proofs.Standing.{Stands, stands, stands_then, stands_before, stands_behind, stands_as, stands_byte}
 use Rattle.written.proofs.Lines.{Inner, each_append, inner_decimal, one_line}
-use Rattle.written.proofs.Number.{number_text, number_read, signed_field, signed_read}
+use Rattle.written.proofs.Number.{nothing, number_text, number_read, signed_field, signed_read}
 
-pub nothing : {A B : Type 0} {a : A} {next : ℕ} → none ≡ item a next → B
-nothing e = absurd (let z : ◌≡◌ {A = ℕ} 0 1 = cc in omega arith)
-
--- a kind of field: its values, the number that each is, its reading, which gives a value with the place after it or nothing, and what goes on with that; a
--- value is read exactly where its number's text stands
+-- a kind of field: its values, the number that each is, and its reading; a value is read exactly where its number's text stands
 pub record FieldKind : Type 1 where
   pub Value : Type 0
   pub number : Value → ℤ
-  pub Outcome : Type 0
-  pub reading : ℕ → List ℕ → ℕ → Outcome
-  pub value : Value → ℕ → Outcome
-  pub on : {R : Type 0} → Outcome → R → (Value → ℕ → R) → R
-  pub goes : {R : Type 0} (v : Value) (i : ℕ) (w : R) (k : Value → ℕ → R) → on (value v i) w k ≡ k v i
-  pub told : {R B : Type 0} (r : Outcome) (w : R) (k : Value → ℕ → R) → (on r w k ≡ w → B)
-      → ((v : Value) (i : ℕ) → r ≡ value v i → on r w k ≡ k v i → B) → B
+  pub reading : ℕ → List ℕ → ℕ → Option (Value × ℕ)
   pub read : (stop : ℕ) → stop < 48 → (s : List ℕ) (at : ℕ) (v : Value) (next : ℕ)
-      → (reading stop s at ≡ value v next) ↔ (InRange (number v) × Stands s at (signed_field stop (number v)) next)
-
-pub number_told : {R B : Type 0} (r : Number) (w : R) (k : ℕ → ℕ → R) → (on_number r w k ≡ w → B) → ((v i : ℕ) → r ≡ N.Value v i → on_number r w k ≡ k v i → B) → B
-number_told (N.Value v i) w k stops goes = goes v i refl refl
-number_told N.Wrong w k stops goes = stops refl
+      → (reading stop s at ≡ Some (v, next)) ↔ (InRange (number v) × Stands s at (signed_field stop (number v)) next)
 
 abbrev pub numbers : FieldKind
-numbers =
-    record {
-      Value = ℕ;
-      number = pos;
-      Outcome = Number;
-      reading = number_at;
-      value = N.Value;
-      on = on_number;
-      goes = λ v i w k. refl;
-      told = number_told;
-      read = number_read;
-    }
-
-pub signed_told : {R B : Type 0} (r : Signed) (w : R) (k : ℤ → ℕ → R) → (on_signed r w k ≡ w → B)
-    → ((z : ℤ) (i : ℕ) → r ≡ S.Value z i → on_signed r w k ≡ k z i → B) → B
-signed_told (S.Value z i) w k stops goes = goes z i refl refl
-signed_told S.Wrong w k stops goes = stops refl
+numbers = record { Value = ℕ; number = pos; reading = number_at; read = number_read }
 
 -- with a minus or without
 abbrev pub signeds : FieldKind
-signeds =
-    record {
-      Value = ℤ;
-      number = λ z. z;
-      Outcome = Signed;
-      reading = signed_at;
-      value = S.Value;
-      on = on_signed;
-      goes = λ z i w k. refl;
-      told = signed_told;
-      read = signed_read;
-    }
+signeds = record { Value = ℤ; number = λ z. z; reading = signed_at; read = signed_read }
 
-abbrev pub field_at : {R : Type 0} (f : FieldKind) → ℕ → List ℕ → ℕ → R → (f.Value → ℕ → R) → R
-field_at f stop s at w k = f.on (f.reading stop s at) w k
+abbrev pub field_at : {R : Type 0} (f : FieldKind) → ℕ → List ℕ → ℕ → (f.Value → ℕ → Option R) → Option R
+field_at f stop s at k = on_read (f.reading stop s at) None k
 
-field_complete : {R : Type 0} (f : FieldKind) (stop : ℕ) → stop < 48 → (w : R) (s : List ℕ) (at next : ℕ) (k : f.Value → ℕ → R) (v : f.Value)
-    → InRange (f.number v) → Stands s at (signed_field stop (f.number v)) next → field_at f stop s at w k ≡ k v next
-field_complete f stop low w s at next k v small t =
-    ap (λ (r : f.Outcome). f.on r w k) ((f.read stop low s at v next).1 (small, t)) ∙ f.goes v next w k
+field_complete : {R : Type 0} (f : FieldKind) (stop : ℕ) → stop < 48 → (s : List ℕ) (at next : ℕ) (k : f.Value → ℕ → Option R) (v : f.Value)
+    → InRange (f.number v) → Stands s at (signed_field stop (f.number v)) next → field_at f stop s at k ≡ k v next
+field_complete f stop low s at next k v small t = ap (λ r. on_read r None k) ((f.read stop low s at v next).1 (small, t))
+
+-- where some value comes of what was read, something was
+read_told : {A R B : Type 0} (r : Option (A × ℕ)) (k : A → ℕ → Option R) (x : R) → on_read r None k ≡ Some x
+    → ((a : A) (i : ℕ) → r ≡ Some (a, i) → k a i ≡ Some x → B) → B
+read_told (Some r) k x e on = on r.0 r.1 refl e
+read_told None k x e on = nothing e
 
 -- n numbers and a last field
 abbrev pub Values : FieldKind → ℕ → Type 0
@@ -96,9 +57,9 @@ Values last zero = last.Value
 Values last (suc n) = ℕ × Values last n
 
 -- n numbers with a space after each and the last field with LF; k takes them, and the place after them
-abbrev pub fields_at : {R : Type 0} (last : FieldKind) (n : ℕ) → List ℕ → ℕ → R → (Values last n → ℕ → R) → R
-fields_at last zero s at w k = field_at last line_end s at w k
-fields_at last (suc n) s at w k = field_at numbers space s at w (λ v i. fields_at last n s i w (λ vs. k (v, vs)))
+abbrev pub fields_at : {R : Type 0} (last : FieldKind) (n : ℕ) → List ℕ → ℕ → (Values last n → ℕ → Option R) → Option R
+fields_at last zero s at k = field_at last line_end s at k
+fields_at last (suc n) s at k = field_at numbers space s at (λ v i. fields_at last n s i (λ vs. k (v, vs)))
 
 abbrev pub fields_text : (last : FieldKind) (n : ℕ) → Values last n → List ℕ
 fields_text last zero v = signed_field line_end (last.number v)
@@ -121,63 +82,60 @@ fields_spaced last (suc n) vs =
     rw (append_assoc (decimal vs.0) (spaced (field_list last n vs.1)) (line_end ∷ []), fields_spaced last n vs.1, append_assoc)
 
 -- what was read there: the values, and what is made of them
-pub record Found {A R : Type 0} (line : R → Item A) (last : FieldKind) (n : ℕ) (k : Values last n → ℕ → R) (s : List ℕ) (at : ℕ) (a : A) (next : ℕ) : Type 0 where
+pub record Found {R : Type 0} (last : FieldKind) (n : ℕ) (k : Values last n → ℕ → Option R) (s : List ℕ) (at : ℕ) (x : R) : Type 0 where
   pub values : Values last n
   pub behind : ℕ
   pub small : Small last n values
   pub text : Stands s at (fields_text last n values) behind
-  pub then : line (k values behind) ≡ item a next
+  pub then : k values behind ≡ Some x
 
-module _ {A R : Type 0} (line : R → Item A) (w : R) (wrong : line w ≡ none) (s : List ℕ) (a : A) (next : ℕ) where
-  field_then : {B : Type 0} (f : FieldKind) (stop : ℕ) → stop < 48 → (at : ℕ) (k : f.Value → ℕ → R) → line (field_at f stop s at w k) ≡ item a next
-      → ((v : f.Value) (i : ℕ) → InRange (f.number v) → Stands s at (signed_field stop (f.number v)) i → line (k v i) ≡ item a next → B) → B
+module _ {R : Type 0} (s : List ℕ) (x : R) where
+  field_then : {B : Type 0} (f : FieldKind) (stop : ℕ) → stop < 48 → (at : ℕ) (k : f.Value → ℕ → Option R) → field_at f stop s at k ≡ Some x
+      → ((v : f.Value) (i : ℕ) → InRange (f.number v) → Stands s at (signed_field stop (f.number v)) i → k v i ≡ Some x → B) → B
   field_then f stop low at k e on =
-      f.told (f.reading stop s at) w k
-      (λ stops. nothing (sym (ap line stops ∙ wrong) ∙ e))
-      (λ v i is goes.
-      let t : InRange (f.number v) × Stands s at (signed_field stop (f.number v)) i = (f.read stop low s at v i).0 is in
-      on v i t.0 t.1 (sym (ap line goes) ∙ e))
+      read_told (f.reading stop s at) k x e
+      (λ v i is then. let t : InRange (f.number v) × Stands s at (signed_field stop (f.number v)) i = (f.read stop low s at v i).0 is in on v i t.0 t.1 then)
 
-  fields_found : (last : FieldKind) (n : ℕ) (k : Values last n → ℕ → R) (at : ℕ) → line (fields_at last n s at w k) ≡ item a next
-      → Found line last n k s at a next
+  fields_found : (last : FieldKind) (n : ℕ) (k : Values last n → ℕ → Option R) (at : ℕ) → fields_at last n s at k ≡ Some x → Found last n k s at x
   fields_found last zero k at e =
       field_then last line_end (omega arith) at k e (λ v i small text then. record { values = v; behind = i; small = (small, tt); text = text; then = then })
   fields_found last (suc n) k at e =
-      field_then numbers space (omega arith) at (λ v i. fields_at last n s i w (λ vs. k (v, vs))) e
+      field_then numbers space (omega arith) at (λ v i. fields_at last n s i (λ vs. k (v, vs))) e
       (λ v i small text then.
-      let r : Found line last n (λ vs. k (v, vs)) s i a next = fields_found last n (λ vs. k (v, vs)) i then in
+      let r : Found last n (λ vs. k (v, vs)) s i x = fields_found last n (λ vs. k (v, vs)) i then in
       record { values = (v, r.values); behind = r.behind; small = (small, r.small); text = stands_then text r.text; then = r.then })
 
-  pub fields_then : {B : Type 0} (last : FieldKind) (n : ℕ) (k : Values last n → ℕ → R) (at : ℕ) → line (fields_at last n s at w k) ≡ item a next
-      → (Found line last n k s at a next → B) → B
+  pub fields_then : {B : Type 0} (last : FieldKind) (n : ℕ) (k : Values last n → ℕ → Option R) (at : ℕ) → fields_at last n s at k ≡ Some x
+      → (Found last n k s at x → B) → B
   fields_then last n k at e on = on (fields_found last n k at e)
 
-pub fields_complete : {R : Type 0} (w : R) (s : List ℕ) (next : ℕ) (last : FieldKind) (n : ℕ) (k : Values last n → ℕ → R) (at : ℕ) (vs : Values last n)
-    → Small last n vs → Stands s at (fields_text last n vs) next → fields_at last n s at w k ≡ k vs next
-fields_complete w s next last zero k at v small t = field_complete last line_end (omega arith) w s at next k v small.0 t
-fields_complete w s next last (suc n) k at vs small t =
+pub fields_complete : {R : Type 0} (s : List ℕ) (next : ℕ) (last : FieldKind) (n : ℕ) (k : Values last n → ℕ → Option R) (at : ℕ) (vs : Values last n)
+    → Small last n vs → Stands s at (fields_text last n vs) next → fields_at last n s at k ≡ k vs next
+fields_complete s next last zero k at v small t = field_complete last line_end (omega arith) s at next k v small.0 t
+fields_complete s next last (suc n) k at vs small t =
     let i : ℕ = at + length (number_text space vs.0) in
-    field_complete numbers space (omega arith) w s at i (λ v j. fields_at last n s j w (λ us. k (v, us))) vs.0 small.0
+    field_complete numbers space (omega arith) s at i (λ v j. fields_at last n s j (λ us. k (v, us))) vs.0 small.0
     (stands_before (number_text space vs.0) (fields_text last n vs.1) t)
-    ∙ fields_complete w s next last n (λ us. k (vs.0, us)) i vs.1 small.1
+    ∙ fields_complete s next last n (λ us. k (vs.0, us)) i vs.1 small.1
     (stands_behind (number_text space vs.0) (fields_text last n vs.1) t)
 
 -- The letter, before them.
-letter_sound : (s : List ℕ) (at : ℕ) → (letter_at s at ≡ 0 → ⊥) → Stands s at (letter_at s at ∷ space ∷ []) (at + 2)
+letter_sound : (s : List ℕ) (at letter : ℕ) → letter_at s at ≡ Some letter → Stands s at (letter ∷ space ∷ []) (at + 2)
 unfolding letter_at
-letter_sound s at some =
-    let long : at + 1 < length s = letter_in s at some in
+letter_sound s at letter e =
+    let long : at + 1 < length s = letter_in s at letter e in
     either (eqb (get_or s (at + 1) 0) space)
-    (λ t. rw t
-    (stands s at (get_or s at 0 ∷ space ∷ []) (drop (suc (at + 1)) s)
-    (drop-cons s at 0 (omega arith) ∙ rw (← add-one at, drop-cons s (at + 1) 0 long, eqb-true (get_or s (at + 1) 0) space t))))
-    (λ f. absurd (some (rw f)))
+    (λ t.
+    let is : get_or s at 0 ≡ letter = same_Some (get_or s at 0) letter (rw t at e) in
+    stands s at (letter ∷ space ∷ []) (drop (suc (at + 1)) s)
+    (drop-cons s at 0 (omega arith) ∙ rw (← add-one at, drop-cons s (at + 1) 0 long, eqb-true (get_or s (at + 1) 0) space t, is)))
+    (λ f. nothing (rw f at e))
 
-letter_complete : (s : List ℕ) (at letter next : ℕ) (t : List ℕ) → Stands s at (letter ∷ space ∷ t) next → letter_at s at ≡ letter
+letter_complete : (s : List ℕ) (at letter next : ℕ) (t : List ℕ) → Stands s at (letter ∷ space ∷ t) next → letter_at s at ≡ Some letter
 unfolding letter_at
 letter_complete s at letter next t p =
     let second : get_or s (at + 1) 0 ≡ space = stands_byte (stands_behind (letter ∷ []) (space ∷ t) p) in
-    rw second (stands_byte p)
+    rw second (ap Some (stands_byte p))
 
 inner_signed : (z : ℤ) → Inner (signed_text z)
 inner_signed (pos v) = inner_decimal v
@@ -194,12 +152,11 @@ module _ (s : List ℕ) (at letter next : ℕ) (last : FieldKind) (n : ℕ) (vs 
   as_fields : line_text letter (field_list last n vs) ≡ (letter ∷ space ∷ []) ++ fields_text last n vs
   as_fields = ap (λ (l : List ℕ). letter ∷ l) (fields_spaced last n vs)
 
-  pub line_stands : letter_at s at ≡ letter → (letter ≡ 0 → ⊥) → Stands s (at + 2) (fields_text last n vs) next
-      → Stands s at (line_text letter (field_list last n vs)) next
-  line_stands is some t = stands_as (sym as_fields) (stands_then (rw is at (letter_sound s at (λ zero. some (sym is ∙ zero)))) t)
+  pub line_stands : letter_at s at ≡ Some letter → Stands s (at + 2) (fields_text last n vs) next → Stands s at (line_text letter (field_list last n vs)) next
+  line_stands is t = stands_as (sym as_fields) (stands_then (letter_sound s at letter is) t)
 
   module _ (t : Stands s at (line_text letter (field_list last n vs)) next) where
-    pub line_letter : letter_at s at ≡ letter
+    pub line_letter : letter_at s at ≡ Some letter
     line_letter = letter_complete s at letter next (fields_text last n vs) (stands_as as_fields t)
 
     pub line_behind : Stands s (at + 2) (fields_text last n vs) next

@@ -10,34 +10,33 @@ use lib.ListN.{length, length-drop}
 use lib.Seq.{drop-length}
 use borrow.Author.Tests.{eq-eqb, ne_eqb}
 use Rattle.below.proofs.Tests.{le_or, cases}
-use Rattle.written.specs.Written.{Contents, object_text, call_text, section_text, file_text, ObjectFits, CallFits, RunFile, IsRunFile}
-use Rattle.written.specs.Check.{object_item, call_item, section_at, on_section, ended_at, calls_layout, layout_of}
-use Rattle.written.specs.File.{good, checked_file}
+use Rattle.written.specs.Written.{objects_most, calls_most, Contents, object_text, call_text, section_text, file_text, ObjectFits, CallFits, RunFile, IsRunFile}
+use Rattle.std.specs.Prelude.{Result, Ok}
+use Rattle.written.specs.Line.{object_at, call_at}
+use Rattle.written.specs.Check.{result_and_then, section_at, ended_at, calls_layout, layout_of}
+use Rattle.written.specs.File.{checked_file}
 use Rattle.written.specs.declared.Call.TheVariants.{Commit}
-use Rattle.written.specs.declared.Section.TheVariants.{Objects, Calls}
 use Rattle.written.specs.declared.Place.{Place}
 use Rattle.written.specs.declared.Part.{Part}
 use Rattle.written.specs.declared.Layout.{Layout}
-use Rattle.written.specs.declared.Check.{Check}
-use Rattle.written.specs.declared.Check.TheVariants.{Good, Bad}
+use Rattle.written.specs.declared.WrongLine.{WrongLine}
 use Rattle.written.proofs.Standing.{Stands, stands_first, stands_then, stands_before, stands_behind, stands_all}
 use Rattle.written.proofs.Line.{objects}
 use Rattle.written.proofs.Calls.{calls}
 use Rattle.written.proofs.Read.{ReadWhole, Stop, stop_here, stop_early}
-use Rattle.written.proofs.Sections.{Holds, part_at, SectionText, section_read, section_through, section_items, stop_section}
+use Rattle.written.proofs.Sections.{wrong, Holds, part_at, SectionText, section_read, section_through, section_items, stop_section}
 
-pub holds_objects : Holds Objects object_item object_text ObjectFits
+pub holds_objects : Holds objects_most object_at object_text ObjectFits
 holds_objects =
     record {
       kind = objects;
-      next = λ s at. refl;
       small = omega arith;
       some = record { letter = code "A"; opening = pos 0 };
       some_fits = (inl refl, omega arith);
     }
 
-holds_calls : Holds Calls call_item call_text CallFits
-holds_calls = record { kind = calls; next = λ s at. refl; small = omega arith; some = Commit 0; some_fits = (omega arith, tt) }
+holds_calls : Holds calls_most call_at call_text CallFits
+holds_calls = record { kind = calls; small = omega arith; some = Commit 0; some_fits = (omega arith, tt) }
 
 abbrev ObjectsText : List ℕ → Type 0
 ObjectsText = SectionText holds_objects
@@ -74,7 +73,7 @@ module _ (s : List ℕ) (contents : Contents) (run : RunFile s contents) where
   second : Stands s (0 + length first_text) second_text (length (file_text contents))
   second = stands_behind first_text second_text whole
 
-  pub laid_out : layout_of s ≡ Good (layout_for contents)
+  pub laid_out : layout_of s ≡ Ok (layout_for contents)
   laid_out =
       rw (
         section_through holds_objects objects_there s (record { at = 0; line = 1 }) (0 + length first_text) first,
@@ -83,7 +82,7 @@ module _ (s : List ℕ) (contents : Contents) (run : RunFile s contents) where
         eq-eqb (length (file_text contents)) (length s) (ap length (sym run.text)),
       )
 
-  pub complete : checked_file s (layout_of s) ≡ good contents
+  pub complete : checked_file s (layout_of s) ≡ Ok contents
   complete =
       rw (
         laid_out,
@@ -97,18 +96,18 @@ run_file o c = (
   record { text = rw (o.is, c.is); few_objects = o.many; few_calls = c.many; objects_fit = o.fits; calls_fit = c.fits },
 )
 
-abbrev layout_from : List ℕ → Place → Check
-layout_from f place = on_section (section_at f Objects place) Bad (calls_layout f)
+abbrev layout_from : List ℕ → Place → Result Layout WrongLine
+layout_from f place = result_and_then (section_at (object_at f) objects_most f place) (λ objects. calls_layout f objects.0 objects.1)
 
 -- the reading of a file stops
 abbrev pub Halt : List ℕ → Type 0
-Halt s = Stop IsRunFile (λ f place line. layout_from f place ≡ Bad line) s 0
+Halt s = Stop IsRunFile (λ f place line. layout_from f place ≡ wrong line) s 0
 
 -- more follows the calls
 stop_end : {s : List ℕ} {at : ℕ} (v : ReadWhole CallsText s at) → v.behind < length s
-    → Stop CallsText (λ f place line. (objects : Part) → calls_layout f objects place ≡ Bad line) s at
+    → Stop CallsText (λ f place line. (objects : Part) → calls_layout f objects place ≡ wrong line) s at
 stop_end {s} {at} v more =
-    stop_section holds_calls {Good = λ t. t ≡ []} {Halts = λ f place line. (layout : Layout) → ended_at f layout place ≡ Bad line} v
+    stop_section holds_calls {Good = λ t. t ≡ []} {Halts = λ f place line. (layout : Layout) → ended_at f layout place ≡ wrong line} v
     (λ t none. rw (none, append-nil v.text) v.good)
     (λ f place line calls end is h objects. rw is (h (record { objects = objects; calls = calls })))
     (stop_here [] refl

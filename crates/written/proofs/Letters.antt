@@ -1,24 +1,22 @@
 -- The letter of a line: where there is one, a byte follows it; and the letters of the kinds.
 use Prim.Native.Nat.{ℕ, ◌+◌, ◌≤◌, ◌<◌}
 use Prim.Native.Char.{code}
-use mathlib.Core.Path.{◌≡◌}
+use mathlib.Core.Path.{◌≡◌, sym, ◌∙◌}
 use mathlib.Core.List.{List}
-use mathlib.Core.Bool.{true, false≢true}
+use Rattle.std.specs.Prelude.{Some, None}
+use Rattle.std.proofs.lemmas.Option.{none-some}
 use mathlib.Core.Logic.{inl, inr}
 use lib.ListN.{length, get_or-eq_default}
 use Rattle.below.proofs.Tests.{le_or, same_or, cases}
 use Rattle.written.specs.Written.{KindLetter}
-use Rattle.written.specs.Line.{letter_at, is_kind}
+use Rattle.written.specs.Line.{letter_at}
 
-pub letter_past : (file : List ℕ) (at : ℕ) → length file ≤ at + 1 → letter_at file at ≡ 0
+pub letter_past : (file : List ℕ) (at : ℕ) → length file ≤ at + 1 → letter_at file at ≡ None
 unfolding letter_at
 letter_past file at h = rw (get_or-eq_default file 0 {n = at + 1} h)
 
-pub letter_in : (file : List ℕ) (at : ℕ) → (letter_at file at ≡ 0 → ⊥) → at + 1 < length file
-letter_in file at some = cases (le_or (length file) (at + 1)) (λ h. absurd (some (letter_past file at h))) (λ h. h)
-
-pub kind_not_zero : (letter : ℕ) → is_kind letter ≡ true → letter ≡ 0 → ⊥
-kind_not_zero letter e z = false≢true (rw z at e)
+pub letter_in : (file : List ℕ) (at letter : ℕ) → letter_at file at ≡ Some letter → at + 1 < length file
+letter_in file at letter e = cases (le_or (length file) (at + 1)) (λ h. absurd (none-some letter (sym (letter_past file at h) ∙ e))) (λ h. h)
 
 -- what is so of each kind's letter
 pub kind_each : (P : ℕ → Type 0) → P (code "A") → P (code "R") → P (code "K") → P (code "S") → (letter : ℕ) → KindLetter letter → P letter

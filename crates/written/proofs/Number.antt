@@ -12,11 +12,10 @@ use lib.Dec.{ltb, leb, eqb}
 use borrow.Author.Tests.{ltb-false, eqb-true, eqb-false, le-ltb, le-leb, eq-eqb, ne_eqb}
 use Rattle.below.proofs.Tests.{le_or, and_both, either, cases}
 use Rattle.text.specs.Text.{minus, decimal, signed_text, number_most}
-use Rattle.text.specs.Number.{is_digit, further, rest_of, first_of, number_at, on_number}
+use Rattle.std.specs.Prelude.{Option, Some, None}
+use Rattle.std.proofs.lemmas.Option.{none-some, some_pair_parts}
+use Rattle.text.specs.Number.{is_digit, further, rest_of, first_of, number_at, on_read}
 use Rattle.text.specs.Signed.{signed_at}
-use Rattle.text.specs.declared.number.Number.{Number}
-use Rattle.text.specs.declared.number.Number.TheVariants.{Value, Wrong}
-use Rattle.text.specs.declared.signed.Signed.TheVariants as S
 use Rattle.text.proofs.Printing.{decimal_small, decimal_more}
 use Rattle.text.proofs.Numbers.{number_end, number_start, digit_low, digit_high, signed_minus, signed_other}
 use Rattle.written.specs.Written.{InRange}
@@ -47,8 +46,9 @@ record NumberFound (stop : ℕ) (digits rest : List ℕ) (i w next : ℕ) : Type
   place : next + length behind ≡ i + length rest
   small : w ≤ number_most
 
-wrong_is_no_value : {A : Type 0} {w next : ℕ} → Wrong ≡ Value w next → A
-wrong_is_no_value e = absurd (let z : ◌≡◌ {A = ℕ} 0 1 = cc in omega arith)
+-- what is not read is not some value
+pub nothing : {A B : Type 0} {a : A} → None ≡ Some a → B
+nothing {a = a} e = absurd (none-some a e)
 
 found_more : {stop i w next : ℕ} {longer : List ℕ} (b : ℕ) (shorter rest : List ℕ) → longer ≡ shorter ++ (b ∷ []) → NumberFound stop longer rest (i + 1) w next
     → NumberFound stop shorter (b ∷ rest) i w next
@@ -60,38 +60,38 @@ found_more b shorter rest e r =
       small = r.small;
     }
 
-rest_found : (stop : ℕ) (rest : List ℕ) (v i w next : ℕ) → v ≤ number_most → rest_of stop rest v i ≡ Value w next → NumberFound stop (decimal v) rest i w next
+rest_found : (stop : ℕ) (rest : List ℕ) (v i w next : ℕ) → v ≤ number_most → rest_of stop rest v i ≡ Some (w, next) → NumberFound stop (decimal v) rest i w next
 unfolding rest_of
-rest_found stop [] v i w next h e = wrong_is_no_value e
+rest_found stop [] v i w next h e = nothing e
 rest_found stop (b ∷ rest) v i w next h e =
     either (eqb b stop)
     (λ t.
-    let e' : Value v (i + 1) ≡ Value w next = rw t at e in
-    let same : v ≡ w = cc in
-    let placed : i + 1 ≡ next = cc in
+    let parts : (v ≡ w) × (i + 1 ≡ next) = some_pair_parts v w (i + 1) next (rw t at e) in
+    let same : v ≡ w = parts.0 in
+    let placed : i + 1 ≡ next = parts.1 in
     record { behind = rest; text = rw (same, eqb-true b stop t); place = omega arith; small = omega arith })
     (λ f. either (is_digit b)
     (λ digit. either (eqb v 0)
-    (λ none. wrong_is_no_value (rw (f, digit, none) at e))
+    (λ none. nothing (rw (f, digit, none) at e))
     (λ some. either (ltb number_most (further v b))
-    (λ over. wrong_is_no_value (rw (f, digit, some, over) at e))
+    (λ over. nothing (rw (f, digit, some, over) at e))
     (λ fits. found_more b (decimal v) rest (digits_further v b (eqb-false v 0 some) digit)
     (rest_found stop rest (further v b) (i + 1) w next (ltb-false number_most (further v b) fits) (rw (f, digit, some, fits) at e)))))
-    (λ other. wrong_is_no_value (rw (f, other) at e)))
+    (λ other. nothing (rw (f, other) at e)))
 
-first_found : (stop : ℕ) (rest : List ℕ) (i w next : ℕ) → first_of stop rest i ≡ Value w next → NumberFound stop [] rest i w next
+first_found : (stop : ℕ) (rest : List ℕ) (i w next : ℕ) → first_of stop rest i ≡ Some (w, next) → NumberFound stop [] rest i w next
 unfolding first_of
-first_found stop [] i w next e = wrong_is_no_value e
+first_found stop [] i w next e = nothing e
 first_found stop (b ∷ rest) i w next e =
     either (is_digit b)
     (λ digit. found_more b [] rest (first_digit b digit)
     (rest_found stop rest (b - 48) (i + 1) w next (omega (arith, digit_high b digit)) (rw digit at e)))
-    (λ other. wrong_is_no_value (rw other at e))
+    (λ other. nothing (rw other at e))
 
 abbrev pub number_text : ℕ → ℕ → List ℕ
 number_text stop v = decimal v ++ (stop ∷ [])
 
-number_sound : (stop : ℕ) (s : List ℕ) (at v next : ℕ) → number_at stop s at ≡ Value v next → (v ≤ number_most) × Stands s at (number_text stop v) next
+number_sound : (stop : ℕ) (s : List ℕ) (at v next : ℕ) → number_at stop s at ≡ Some (v, next) → (v ≤ number_most) × Stands s at (number_text stop v) next
 unfolding number_at
 number_sound stop s at v next e =
     let r : NumberFound stop [] (drop at s) at v next = first_found stop (drop at s) at v next e in
@@ -131,7 +131,7 @@ first_reads stop low (suc most) v h fits rest i =
     (λ d. rw (decimal_small v d) (first_small stop v d rest i))
 
 number_complete : (stop : ℕ) → stop < 48 → (s : List ℕ) (at v next : ℕ) → v ≤ number_most → Stands s at (number_text stop v) next
-    → number_at stop s at ≡ Value v next
+    → number_at stop s at ≡ Some (v, next)
 unfolding number_at rest_of
 number_complete stop low s at v next fits p =
     let ends : at + length (decimal v) + 1 ≡ next = omega (arith, p.place, length-append (decimal v) (stop ∷ [])) in
@@ -140,15 +140,12 @@ number_complete stop low s at v next fits p =
 
 -- the end byte is no digit
 pub number_read : (stop : ℕ) → stop < 48 → (s : List ℕ) (at v next : ℕ)
-    → (number_at stop s at ≡ Value v next) ↔ ((v ≤ number_most) × Stands s at (number_text stop v) next)
+    → (number_at stop s at ≡ Some (v, next)) ↔ ((v ≤ number_most) × Stands s at (number_text stop v) next)
 number_read stop low s at v next = (number_sound stop s at v next, λ w. number_complete stop low s at v next w.0 w.1)
 
 -- The sign.
 abbrev pub signed_field : ℕ → ℤ → List ℕ
 signed_field stop z = signed_text z ++ (stop ∷ [])
-
-wrong_is_no_signed : {A : Type 0} {z : ℤ} {next : ℕ} → S.Wrong ≡ S.Value z next → A
-wrong_is_no_signed e = absurd (let z : ◌≡◌ {A = ℕ} 0 1 = cc in omega arith)
 
 -- a minus that is there, within the file
 minus_stands : (s : List ℕ) (at : ℕ) → get_or s at 0 ≡ minus → Stands s at (minus ∷ []) (at + 1)
@@ -158,17 +155,17 @@ minus_stands s at m =
     (λ h. stands s at (minus ∷ []) (drop (suc at) s) (drop-cons s at 0 h ∙ rw m))
 
 -- where a number is read, none stands
-no_minus : (stop : ℕ) (s : List ℕ) (at v next : ℕ) → number_at stop s at ≡ Value v next → get_or s at 0 ≡ minus → ⊥
+no_minus : (stop : ℕ) (s : List ℕ) (at v next : ℕ) → number_at stop s at ≡ Some (v, next) → get_or s at 0 ≡ minus → ⊥
 no_minus stop s at v next e m =
     cases (le_or (length s) at)
-    (λ past. wrong_is_no_value (sym (number_end stop s at past) ∙ e))
-    (λ h. wrong_is_no_value (sym (number_start stop s at h ∙ rw m) ∙ e))
+    (λ past. nothing (sym (number_end stop s at past) ∙ e))
+    (λ h. nothing (sym (number_start stop s at h ∙ rw m) ∙ e))
 
 after_zero : (v : ℕ) → eqb (suc v) 0 ≡ false
 after_zero v = ne_eqb (suc v) 0 (λ e. omega arith)
 
 module _ (stop : ℕ) (low : stop < 48) (s : List ℕ) (at : ℕ) (z : ℤ) (next : ℕ) where
-  signed_sound : signed_at stop s at ≡ S.Value z next → InRange z × Stands s at (signed_field stop z) next
+  signed_sound : signed_at stop s at ≡ Some (z, next) → InRange z × Stands s at (signed_field stop z) next
   signed_sound e =
       either (eqb (get_or s at 0) minus)
       (λ t.
@@ -176,35 +173,32 @@ module _ (stop : ℕ) (low : stop < 48) (s : List ℕ) (at : ℕ) (z : ℤ) (nex
       negative (minus_stands s at m) (number_at stop s (at + 1)) refl (sym (signed_minus stop s at m) ∙ e))
       (λ f. plain (number_at stop s at) refl (sym (signed_other stop s at (eqb-false (get_or s at 0) minus f)) ∙ e))
     where
-      plain : (r : Number) → number_at stop s at ≡ r → on_number r S.Wrong (λ v i. S.Value (pos v) i) ≡ S.Value z next
+      plain : (r : Option (ℕ × ℕ)) → number_at stop s at ≡ r → on_read {B = Option (ℤ × ℕ)} r None (λ v i. Some (pos v, i)) ≡ Some (z, next)
           → InRange z × Stands s at (signed_field stop z) next
-      plain (Value v i) is e =
-          let same : pos v ≡ z = cc in
-          let ends : i ≡ next = cc in
-          rw (← same, ← ends) ((number_read stop low s at v i).0 is)
-      plain Wrong is e = wrong_is_no_signed e
+      plain (Some (v, i)) is e =
+          let parts : (pos v ≡ z) × (i ≡ next) = some_pair_parts (pos v) z i next e in
+          rw (← parts.0, ← parts.1) ((number_read stop low s at v i).0 is)
+      plain None is e = nothing e
 
-      negative : Stands s at (minus ∷ []) (at + 1) → (r : Number) → number_at stop s (at + 1) ≡ r
-          → on_number r S.Wrong (λ v i. cond (eqb v 0) S.Wrong (S.Value (neg_ℤ (pos v)) i)) ≡ S.Value z next
+      negative : Stands s at (minus ∷ []) (at + 1) → (r : Option (ℕ × ℕ)) → number_at stop s (at + 1) ≡ r
+          → on_read {B = Option (ℤ × ℕ)} r None (λ v i. cond (eqb v 0) None (Some (neg_ℤ (pos v), i))) ≡ Some (z, next)
           → InRange z × Stands s at (signed_field stop z) next
-      negative m (Value zero i) is e = wrong_is_no_signed e
-      negative m (Value (suc v) i) is e =
-          let e' : S.Value (negsuc v) i ≡ S.Value z next = rw (after_zero v) at e in
-          let same : negsuc v ≡ z = cc in
-          let ends : i ≡ next = cc in
+      negative m (Some (zero, i)) is e = nothing e
+      negative m (Some (suc v, i)) is e =
+          let parts : (negsuc v ≡ z) × (i ≡ next) = some_pair_parts (negsuc v) z i next (rw (after_zero v) at e) in
           let w : (suc v ≤ number_most) × Stands s (at + 1) (number_text stop (suc v)) i = (number_read stop low s (at + 1) (suc v) i).0 is in
-          rw (← same, ← ends) (w.0, stands_then m w.1)
-      negative m Wrong is e = wrong_is_no_signed e
+          rw (← parts.0, ← parts.1) (w.0, stands_then m w.1)
+      negative m None is e = nothing e
 
 signed_complete : (stop : ℕ) → stop < 48 → (s : List ℕ) (at : ℕ) (z : ℤ) (next : ℕ) → InRange z → Stands s at (signed_field stop z) next
-    → signed_at stop s at ≡ S.Value z next
+    → signed_at stop s at ≡ Some (z, next)
 signed_complete stop low s at (pos v) next fits t =
-    let is : number_at stop s at ≡ Value v next = (number_read stop low s at v next).1 (fits, t) in
+    let is : number_at stop s at ≡ Some (v, next) = (number_read stop low s at v next).1 (fits, t) in
     signed_other stop s at (no_minus stop s at v next is) ∙ rw is
 signed_complete stop low s at (negsuc v) next fits t =
     signed_minus stop s at (stands_byte t)
     ∙ rw ((number_read stop low s (at + 1) (suc v) next).1 (fits, stands_behind (minus ∷ []) (number_text stop (suc v)) t), after_zero v)
 
 pub signed_read : (stop : ℕ) → stop < 48 → (s : List ℕ) (at : ℕ) (z : ℤ) (next : ℕ)
-    → (signed_at stop s at ≡ S.Value z next) ↔ (InRange z × Stands s at (signed_field stop z) next)
+    → (signed_at stop s at ≡ Some (z, next)) ↔ (InRange z × Stands s at (signed_field stop z) next)
 signed_read stop low s at z next = (signed_sound stop low s at z next, λ w. signed_complete stop low s at z next w.0 w.1)

@@ -8,11 +8,11 @@ use native.Mathlib.Omega.{arith}
 use lib.ListN.{length, drop}
 use Rattle.below.proofs.Tests.{cases}
 use Rattle.written.specs.Written.{Lines, Begins}
-use Rattle.written.specs.Items.{Item, item, none}
+use Rattle.std.specs.Prelude.{Option, Some, None}
 use Rattle.written.specs.declared.Place.{Place}
 use Rattle.written.proofs.Standing.{Stands, stands_none, stands, stands_then, stands_before, stands_behind}
 use Rattle.written.proofs.Lines.{lines_append, lines_same}
-use Rattle.written.proofs.Fields.{nothing}
+use Rattle.written.proofs.Number.{nothing}
 use Rattle.written.proofs.Line.{LineKind}
 
 -- what comes at i in s, next to what comes at j in f: whole lines of f are lines of s, and f has an end only where s has
@@ -35,13 +35,13 @@ shares_line this rest rest' one e e' =
     some (b ∷ t) one e = let z : ◌≡◌ {A = ℕ} 0 1 = cc in omega arith
 
 -- where no line of a kind is read, none is read in a file that goes on with the same line
-pub none_shared : {A : Type 0} {line : List ℕ → ℕ → Item A} {text : A → List ℕ} {Fits : A → Type 0} → LineKind line text Fits
-    → (s f : List ℕ) (i j : ℕ) → Shares s i f j → line s i ≡ none → line f j ≡ none
+pub none_shared : {A : Type 0} {line : List ℕ → ℕ → Option (A × ℕ)} {text : A → List ℕ} {Fits : A → Type 0} → LineKind line text Fits
+    → (s f : List ℕ) (i j : ℕ) → Shares s i f j → line s i ≡ None → line f j ≡ None
 none_shared {A} {line} {text} {Fits} kind s f i j share e = go (line f j) refl
   where
-    go : (r : Item A) → line f j ≡ r → line f j ≡ none
-    go none is = is
-    go (item a next) is =
+    go : (r : Option (A × ℕ)) → line f j ≡ r → line f j ≡ None
+    go None is = is
+    go (Some (a, next)) is =
         let w : Fits a × Stands f j (text a) next = (kind.read f j a next).0 is in
         let b : (behind : List ℕ) × (drop i s ≡ text a ++ behind) = share.line (text a) (drop next f) (kind.one a w.0) w.1.here in
         nothing (sym e ∙ (kind.read s i a (i + length (text a))).1 (w.0, stands s i (text a) b.0 b.1))

@@ -11,16 +11,18 @@ use borrow.Author.Tests.{lt-ltb, le-ltb}
 use Rattle.below.proofs.Tests.{le_or, either, cases}
 use Rattle.written.specs.Written.{objects_most, calls_most, bytes_most, Contents, RunFile, IsRunFile, Lines, Top, FirstWrong}
 use Rattle.written.specs.Check.{layout_of, check_of}
-use Rattle.written.specs.File.{File, good, bad, checked_file, file_of}
+use Rattle.std.specs.Prelude.{Result, Ok, Err}
+use Rattle.written.specs.File.{checked_file, file_of}
 use Rattle.written.specs.declared.Layout.{Layout}
-use Rattle.written.specs.declared.Check.TheVariants as C
+use Rattle.written.specs.declared.WrongLine.{WrongLine}
 use Rattle.written.proofs.Standing.{Stands, stands_first}
 use Rattle.written.proofs.Lines.{lines_same, Split, split, split_then}
 use Rattle.written.proofs.Read.{Shares, shares_self, shares_line}
+use Rattle.written.proofs.Sections.{wrong, same_line}
 use Rattle.written.proofs.File.{layout_for, laid_out, complete, Halt, outcome}
 
 -- a file too long is named as line 0, whatever its lines are
-pub too_long_lem : (s : List ℕ) → bytes_most < length s → file_of s ≡ bad 0
+pub too_long_lem : (s : List ℕ) → bytes_most < length s → file_of s ≡ Err (record { line = 0 })
 unfolding file_of check_of
 too_long_lem s h = rw (lt-ltb bytes_most (length s) h)
 
@@ -28,24 +30,24 @@ short_file : (s : List ℕ) → length s ≤ bytes_most → file_of s ≡ checke
 unfolding file_of check_of
 short_file s h = rw (le-ltb bytes_most (length s) h)
 
-read_file : (s : List ℕ) → length s ≤ bytes_most → (contents : Contents) → RunFile s contents → file_of s ≡ good contents
+read_file : (s : List ℕ) → length s ≤ bytes_most → (contents : Contents) → RunFile s contents → file_of s ≡ Ok contents
 read_file s h contents run = short_file s h ∙ complete s contents run
 
-halted : (s : List ℕ) (h : Halt s) → layout_of s ≡ C.Bad (1 + h.count)
+halted : (s : List ℕ) (h : Halt s) → layout_of s ≡ wrong (1 + h.count)
 halted s h = h.halts s (record { at = 0; line = 1 }) h.behind h.here (shares_self s h.behind)
 
-read_bad : (s : List ℕ) → length s ≤ bytes_most → (h : Halt s) → file_of s ≡ bad (1 + h.count)
+read_bad : (s : List ℕ) → length s ≤ bytes_most → (h : Halt s) → file_of s ≡ wrong (1 + h.count)
 read_bad s short h = short_file s short ∙ rw (halted s h)
 
-good_not_bad : {A : Type 0} {r : File} {contents : Contents} {line : ℕ} → r ≡ good contents → r ≡ bad line → A
+good_not_bad : {A B : Type 0} {r : Result B WrongLine} {x : B} {line : ℕ} → r ≡ Ok x → r ≡ wrong line → A
 good_not_bad e f = absurd (let z : ◌≡◌ {A = ℕ} 0 1 = cc in omega arith)
 
-pub read_exactly : (s : List ℕ) → length s ≤ bytes_most → (contents : Contents) → (file_of s ≡ good contents) ↔ RunFile s contents
+pub read_exactly : (s : List ℕ) → length s ≤ bytes_most → (contents : Contents) → (file_of s ≡ Ok contents) ↔ RunFile s contents
 read_exactly s h contents = (
   λ e.
       cases (outcome s)
       (λ w.
-      let again : file_of s ≡ good w.0 = read_file s h w.0 w.1 in
+      let again : file_of s ≡ Ok w.0 = read_file s h w.0 w.1 in
       let same : w.0 ≡ contents = cc in
       rw same at w.1)
       (λ halt. good_not_bad e (read_bad s h halt)),
@@ -56,7 +58,7 @@ read_exactly s h contents = (
 module _ (s : List ℕ) (h : Halt s) where
   no_run_file : (f : List ℕ) (e : ℕ) → Stands f 0 h.before e → Shares s h.behind f e → IsRunFile f → ⊥
   no_run_file f e t share run =
-      let stopped : checked_file f (layout_of f) ≡ bad (1 + h.count) = rw (h.halts f (record { at = 0; line = 1 }) e t share) in
+      let stopped : checked_file f (layout_of f) ≡ wrong (1 + h.count) = rw (h.halts f (record { at = 0; line = 1 }) e t share) in
       good_not_bad (complete f run.0 run.1) stopped
 
   no_next : (upto : List ℕ) → Top (1 + h.count) s upto → (rest : List ℕ) → IsRunFile (upto ++ rest) → ⊥
@@ -101,33 +103,30 @@ sole_line Good s l m p q =
     (λ h. cases (le_or m l) (λ k. omega arith) (λ k. absurd (not_later Good s l m p q k)))
     (λ k. absurd (not_later Good s m l q p k))
 
-pub first_wrong : (s : List ℕ) → length s ≤ bytes_most → (line : ℕ) → (file_of s ≡ bad line) ↔ FirstWrong IsRunFile s line
+pub first_wrong : (s : List ℕ) → length s ≤ bytes_most → (line : ℕ) → (file_of s ≡ Err (record { line = line })) ↔ FirstWrong IsRunFile s line
 first_wrong s h line = (
   λ e.
       cases (outcome s)
       (λ w. good_not_bad (read_file s h w.0 w.1) e)
       (λ halt.
-      let again : file_of s ≡ bad (1 + halt.count) = read_bad s h halt in
-      let same : 1 + halt.count ≡ line = cc in
+      let again : file_of s ≡ wrong (1 + halt.count) = read_bad s h halt in
+      let same : 1 + halt.count ≡ line = same_line (sym again ∙ e) in
       rw same at (halt_wrong s halt)),
-  λ wrong.
+  λ first.
       cases (outcome s)
-      (λ run. absurd (wrong.broken run))
-      (λ halt. read_bad s h halt ∙ ap bad (sole_line IsRunFile s (1 + halt.count) line (halt_wrong s halt) wrong)),
+      (λ run. absurd (first.broken run))
+      (λ halt. read_bad s h halt ∙ ap wrong (sole_line IsRunFile s (1 + halt.count) line (halt_wrong s halt) first)),
 )
 
-bad_not_good : {A : Type 0} {line : ℕ} {layout : Layout} → C.Bad line ≡ C.Good layout → A
-bad_not_good e = absurd (let z : ◌≡◌ {A = ℕ} 0 1 = cc in omega arith)
-
 -- a good file's counts are within their limits
-pub good_limits : (s : List ℕ) (layout : Layout) → check_of s ≡ C.Good layout → (layout.objects.lines ≤ objects_most) × (layout.calls.lines ≤ calls_most)
+pub good_limits : (s : List ℕ) (layout : Layout) → check_of s ≡ Ok layout → (layout.objects.lines ≤ objects_most) × (layout.calls.lines ≤ calls_most)
 unfolding check_of
 good_limits s layout e =
     either (ltb bytes_most (length s))
-    (λ over. bad_not_good (rw over at e))
+    (λ over. good_not_bad (rw over at e) refl)
     (λ short. cases (outcome s)
     (λ w.
-    let laid : layout_of s ≡ C.Good layout = rw short at e in
+    let laid : layout_of s ≡ Ok layout = rw short at e in
     let same : layout_for w.0 ≡ layout = cc (laid_out s w.0 w.1) in
     rw (← same) (w.1.few_objects, w.1.few_calls))
-    (λ halt. bad_not_good (sym (halted s halt) ∙ rw short at e)))
+    (λ halt. good_not_bad (rw short at e) (halted s halt)))

@@ -1,77 +1,48 @@
 -- The check of a whole file. Source: document 01, "The run file and its program": sections stand in a fixed order, each after its count; nothing follows;
 -- a count over its limit breaks the file; a file too long is named as line 0, even if a line is wrong too.
-use Rattle.std.specs.Prelude.{ℕ, ◌+◌, List, cond, length, ltb, eqb}
+use Rattle.std.specs.Prelude.{ℕ, ◌+◌, ◌≡◌, List, cond, length, ltb, eqb, Option, Some, None, Result, Ok, Err}
 use Rattle.text.specs.Text.{line_end}
-use Rattle.text.specs.Number.{number_at, on_number}
-use Rattle.text.specs.declared.number.Number.{Number}
-use Rattle.text.specs.declared.number.Number.TheVariants.{Value, Wrong}
-use Rattle.written.specs.Written.{Object, objects_most, calls_most, bytes_most}
+use Rattle.text.specs.Number.{number_at, on_read}
+use Rattle.written.specs.Written.{objects_most, calls_most, bytes_most}
 use Rattle.written.specs.Line.{object_at, call_at}
-use Rattle.written.specs.Items.{Item, item, none, next_of, ends_from, on_ends}
-use Rattle.written.specs.declared.Call.{Call}
-use Rattle.written.specs.declared.CallLine.{CallLine}
-use Rattle.written.specs.declared.CallLine.TheVariants as C
-use Rattle.written.specs.declared.ObjectLine.{ObjectLine}
-use Rattle.written.specs.declared.ObjectLine.TheVariants as O
-use Rattle.written.specs.declared.Section.{Section}
-use Rattle.written.specs.declared.Section.TheVariants.{Objects, Calls}
-use Rattle.written.specs.declared.Next.{Next}
+use Rattle.written.specs.Items.{ends_from}
 use Rattle.written.specs.declared.Place.{Place}
 use Rattle.written.specs.declared.Part.{Part}
 use Rattle.written.specs.declared.Layout.{Layout}
-use Rattle.written.specs.declared.SectionEnd.{SectionEnd}
-use Rattle.written.specs.declared.SectionEnd.TheVariants as S
-use Rattle.written.specs.declared.Check.{Check}
-use Rattle.written.specs.declared.Check.TheVariants.{Good, Bad}
+use Rattle.written.specs.declared.WrongLine.{WrongLine}
 
-abbrev pub object_read : ObjectLine → Item Object
-object_read (O.Object letter opening next) = item (record { letter = letter; opening = opening }) next
-object_read O.Wrong = none
-
-abbrev pub call_read : CallLine → Item Call
-call_read (C.Call call next) = item call next
-call_read C.Wrong = none
-
-abbrev pub object_item : List ℕ → ℕ → Item Object
-object_item file at = object_read (object_at file at)
-
-abbrev pub call_item : List ℕ → ℕ → Item Call
-call_item file at = call_read (call_at file at)
-
-abbrev pub next_in : List ℕ → Section → ℕ → Next
-next_in file Objects at = next_of (object_item file at)
-next_in file Calls at = next_of (call_item file at)
-
-abbrev pub most_in : Section → ℕ
-most_in Objects = objects_most
-most_in Calls = calls_most
+-- go on with the value, or stop at the error
+abbrev pub result_and_then : {A B E : Type 0} → Result A E → (A → Result B E) → Result B E
+result_and_then (Ok a) k = k a
+result_and_then (Err e) k = Err e
 
 -- a count on a line of its own
-abbrev pub count_at : ℕ → List ℕ → ℕ → Number
-count_at most file at = on_number (number_at line_end file at) Wrong (λ n next. cond (ltb most n) Wrong (Value n next))
+abbrev pub count_at : ℕ → List ℕ → ℕ → Option (ℕ × ℕ)
+count_at most file at = on_read (number_at line_end file at) None (λ n next. cond (ltb most n) None (Some (n, next)))
 
--- a section from its count on, and the place after it; or its first wrong line
-abbrev pub section_at : List ℕ → Section → Place → SectionEnd
-section_at file section place =
-    on_number (count_at (most_in section) file place.at) (S.Wrong place.line)
-    (λ lines start. on_ends (ends_from (next_in file section) lines (record { at = start; line = place.line + 1 })) S.Wrong
-    (S.After (record { lines = lines; start = start })))
-
-abbrev pub on_section : {B : Type 0} → SectionEnd → (ℕ → B) → (Part → Place → B) → B
-on_section (S.After part place) w k = k part place
-on_section (S.Wrong line) w k = w line
+-- a section of at most so many lines, from its count on, and the place after it; or its first wrong line
+abbrev pub section_at : {A : Type 0} → (ℕ → Option (A × ℕ)) → ℕ → List ℕ → Place → Result (Part × Place) WrongLine
+section_at line most file place =
+    on_read (count_at most file place.at) (Err (record { line = place.line }))
+    (λ lines start. result_and_then (ends_from line lines (record { at = start; line = place.line + 1 }))
+    (λ end. Ok (record { lines = lines; start = start }, end)))
 
 -- nothing follows
-abbrev pub ended_at : List ℕ → Layout → Place → Check
-ended_at file layout place = cond (eqb place.at (length file)) (Good layout) (Bad place.line)
+abbrev pub ended_at : List ℕ → Layout → Place → Result Layout WrongLine
+ended_at file layout place = cond (eqb place.at (length file)) (Ok layout) (Err (record { line = place.line }))
 
 -- from the call count on
-abbrev pub calls_layout : List ℕ → Part → Place → Check
+abbrev pub calls_layout : List ℕ → Part → Place → Result Layout WrongLine
 calls_layout file objects place =
-    on_section (section_at file Calls place) Bad (λ calls end. ended_at file (record { objects = objects; calls = calls }) end)
+    result_and_then (section_at (call_at file) calls_most file place) (λ calls. ended_at file (record { objects = objects; calls = calls.0 }) calls.1)
 
-abbrev pub layout_of : List ℕ → Check
-layout_of file = on_section (section_at file Objects (record { at = 0; line = 1 })) Bad (calls_layout file)
+abbrev pub layout_of : List ℕ → Result Layout WrongLine
+layout_of file =
+    result_and_then (section_at (object_at file) objects_most file (record { at = 0; line = 1 })) (λ objects. calls_layout file objects.0 objects.1)
 
-unfoldable pub check_of : List ℕ → Check
-check_of file = cond (ltb bytes_most (length file)) (Bad 0) (layout_of file)
+unfoldable pub check_of : List ℕ → Result Layout WrongLine
+check_of file = cond (ltb bytes_most (length file)) (Err (record { line = 0 })) (layout_of file)
+
+-- each outcome of the code that reads a line, `post`, is what the line gives
+abbrev pub Reads : {A : Type 0} → (ℕ → Option (A × ℕ) → Type 0) → (ℕ → Option (A × ℕ)) → Type 0
+Reads {A} post line = (at : ℕ) (r : Option (A × ℕ)) → post at r → r ≡ line at

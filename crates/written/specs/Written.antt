@@ -3,6 +3,7 @@
 use Rattle.std.specs.Prelude.{ℕ, ◌-◌, ◌≤◌, ◌≡◌, ◌⊎◌, List, [], ◌∷◌, ◌++◌, cond, length, ℤ, pos, nat_abs, eqb}
 use Prim.Native.Char.{code}
 use Rattle.text.specs.Text.{line_end, space, decimal, signed_text, number_most}
+use Rattle.written.specs.declared.Object.{Object}
 use Rattle.written.specs.declared.Call.{Call}
 use Rattle.written.specs.declared.Call.TheVariants.{Plain, Access, Respond, Commit, Abort}
 
@@ -14,11 +15,6 @@ calls_most = 4096
 
 abbrev pub bytes_most : ℕ
 bytes_most = 65536
-
--- an object line: its kind's letter and its opening
-pub record Object : Type 0 where
-  pub letter : ℕ
-  pub opening : ℤ
 
 -- what a file holds
 pub record Contents : Type 0 where

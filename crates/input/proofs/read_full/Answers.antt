@@ -15,5 +15,8 @@ joined a k n xs ys h f =
 
 pub loop-done-preserved : goal.loop-done-preserved
 loop-done-preserved g c =
-    let seam = joined c.loop-done.done _ c.in_ok-n.n c.loop-done.buffer c.read.new.buf c.loop-done.invariant.1 c.in_ok-n.ensures.bound.0 in
-    (search rules, search rules, subst (Consumes _ _) (sym seam) (Consumes-trans _ _ _ _ _ c.loop-done.invariant.2 c.in_ok-n.ensures.bytes.0))
+    let seam = joined c.loop-done.done _ c.in_ok-n.n c.loop-done.buffer c.read.new.buf c.loop-done.invariant.bound c.in_ok-n.ensures.bound.0 in
+    record {
+      bound = search rules;
+      bytes = subst (Consumes _ _) (sym seam) (Consumes-trans _ _ _ _ _ c.loop-done.invariant.bytes c.in_ok-n.ensures.bytes.0);
+    }

@@ -25,7 +25,7 @@ use Rattle.kinds.specs.declared.Operation.{Operation}
 use Rattle.kinds.specs.declared.Operation.TheVariants as O
 use Rattle.kinds.specs.declared.outcome.Outcome.{Outcome}
 use Rattle.kinds.specs.declared.outcome.Outcome.TheVariants.{Ok, Fail, Value}
-use Rattle.kinds.proofs.Outcomes.{value_is, size_is, apart, ok_not_fail}
+use Rattle.kinds.proofs.Outcomes.{value_is, size_is, ok_not_fail}
 use Rattle.kinds.proofs.Takes.{Takes}
 use Rattle.kinds.proofs.Takes as takes
 use Rattle.kinds.proofs.Exactly as exactly
@@ -75,17 +75,17 @@ terms = record {
 silent : (n b : ℕ) (v : ℤ) → (step_of (record { balance = b }) (Withdraw n)).outcome ≡ Value v → ⊥
 silent n b v e =
     ⊎_elim
-    (λ h. apart Ok (Value v) refl (sym (ap (λ s. s.outcome) (covered n b h)) ∙ e))
-    (λ h. apart Fail (Value v) refl (sym (ap (λ s. s.outcome) (lacking n b h)) ∙ e))
+    (λ h. let ok = ap (λ s. s.outcome) (covered n b h) in cc)
+    (λ h. let fails = ap (λ s. s.outcome) (lacking n b h) in cc)
     (le_or n b)
 
 sorted : (o : AccountOperation) (r : Outcome) → exactly.Sorted terms o r
 sorted Balance (Value v) = inl (0, v, refl, balance)
-sorted Balance Ok = inr (refl, λ b e. apart (Value (pos b)) Ok refl e)
-sorted Balance Fail = inr (refl, λ b e. apart (Value (pos b)) Fail refl e)
+sorted Balance Ok = inr (refl, λ b e. cc)
+sorted Balance Fail = inr (refl, λ b e. cc)
 sorted (Deposit n) Ok = inl (1, pos n, refl, deposit)
-sorted (Deposit n) Fail = inr (refl, λ b e. ok_not_fail e)
-sorted (Deposit n) (Value v) = inr (refl, λ b e. apart Ok (Value v) refl e)
+sorted (Deposit n) Fail = inr (refl, λ b e. cc)
+sorted (Deposit n) (Value v) = inr (refl, λ b e. cc)
 sorted (Withdraw n) Ok = inl (2, pos n, refl, drawn)
 sorted (Withdraw n) Fail = inl (3, pos n, refl, short)
 sorted (Withdraw n) (Value v) = inr (refl, λ b e. silent n b v e)

@@ -1,7 +1,7 @@
 -- What an answer is to a bin: its part, whether it needs that part in or out, and whether it changes that. And where the two orders of two answers agree:
 -- everywhere if they are on different parts or neither changes anything; nowhere if they are on the same part, need the same of it, and one changes it.
 use mathlib.Core.Path.{◌≡◌, refl, sym, ap, ◌∙◌}
-use mathlib.Core.Bool.{Bool, true, false, not, cond, ◌||◌, true≢false}
+use mathlib.Core.Bool.{Bool, true, false, not, cond, ◌||◌}
 use Prim.Native.Nat.{ℕ, ◌+◌, ◌-◌, ◌^◌, ◌≤◌}
 use native.Mathlib.Omega.{arith}
 use lib.Pow.{pow_pos}
@@ -58,29 +58,29 @@ apart_settled x y n other h k =
 
 pub still_settled : (x y : Act) (n : ℕ) → (moves x || moves y) ≡ false → Needs x n → Needs y n → Settled x y n
 still_settled (act i b false) (act j d false) n f h k = (k, h, refl)
-still_settled (act i b true) y n f h k = absurd (true≢false f)
-still_settled (act i b false) (act j d true) n f h k = absurd (true≢false f)
+still_settled (act i b true) y n f h k = cc
+still_settled (act i b false) (act j d true) n f h k = cc
 
 flipped_here : (b : Bool) (i n : ℕ) → is_in n i ≡ b → is_in (flipped b i n) i ≡ not b
 flipped_here true i n h = take_out n i h
 flipped_here false i n h = put_in n i h
 
 not_itself : (b : Bool) → not b ≡ b → ⊥
-not_itself true e = true≢false (sym e)
-not_itself false e = true≢false e
+not_itself true e = cc
+not_itself false e = cc
 
 pub unsettled : (x y : Act) (n : ℕ) → part x ≡ part y → inside x ≡ inside y → (moves x || moves y) ≡ true → Needs x n → Needs y n → ¬ Settled x y n
 unsettled (act i b true) (act j d l) n e f t h k both = not_itself b (sym (flipped_here b i n h) ∙ ap (is_in (flipped b i n)) e ∙ both.0 ∙ sym f)
 unsettled (act i b false) (act j d true) n e f t h k both = not_itself d (sym (flipped_here d j n k) ∙ sym (ap (is_in (flipped d j n)) e) ∙ both.1 ∙ f)
-unsettled (act i b false) (act j d false) n e f t h k both = true≢false (sym t)
+unsettled (act i b false) (act j d false) n e f t h k both = cc
 
 -- the bin stays as it was just where nothing is changed
 pub stays : (x : Act) (n : ℕ) → moves x ≡ false → ended x n ≡ n
 stays (act i b false) n f = refl
-stays (act i b true) n f = absurd (true≢false f)
+stays (act i b true) n f = cc
 
 pub moves_on : (x : Act) (n : ℕ) → Needs x n → moves x ≡ true → ended x n ≡ n → ⊥
-moves_on (act i b false) n h t e = true≢false (sym t)
+moves_on (act i b false) n h t e = cc
 moves_on (act i true true) n h t e = omega (arith, in_least n i h, pow_pos i)
 moves_on (act i false true) n h t e = omega (arith, pow_pos i)
 

@@ -13,7 +13,7 @@ use Rattle.theory.proofs.Alike.{alike_answers}
 use Rattle.theory.proofs.Forms.{Form}
 use Rattle.kinds.specs.Bin.{bin_of, is_in, part_of, class_of, table}
 use Rattle.kinds.specs.Kinds.{step_of, conflict_of}
-use Rattle.kinds.specs.Table.{entry, judge}
+use Rattle.kinds.specs.Table.{entry, judge, in_row}
 use Rattle.kinds.specs.Object.{StateOf, bin, object_of}
 use Rattle.kinds.specs.Witness.{is_ok, was_in, parts_for}
 use Rattle.kinds.specs.declared.bin.BinOperation.{BinOperation}
@@ -25,9 +25,8 @@ use Rattle.kinds.specs.declared.Operation.{Operation}
 use Rattle.kinds.specs.declared.Operation.TheVariants as O
 use Rattle.kinds.specs.declared.outcome.Outcome.{Outcome}
 use Rattle.kinds.specs.declared.outcome.Outcome.TheVariants.{Ok, Fail, Value}
-use Rattle.kinds.specs.declared.table.Class.TheVariants.{Row}
 use Rattle.kinds.specs.declared.table.Rule.TheVariants.{Pass, IfEqual}
-use Rattle.kinds.proofs.Outcomes.{size_is, apart, ok_not_fail}
+use Rattle.kinds.proofs.Outcomes.{size_is, ok_not_fail}
 use Rattle.kinds.proofs.Keys.{equal_keys, not_below_itself}
 use Rattle.kinds.proofs.Digits.{by_part, same_parts, below_power}
 use Rattle.kinds.proofs.Takes.{Takes, part_most_lem}
@@ -58,8 +57,8 @@ shown_as t = Value (cond t (pos 1) (pos 0))
 
 look_tells : (t u : Bool) → shown_as t ≡ shown_as u → u ≡ t
 look_tells true true e = refl
-look_tells true false e = absurd (let z : ◌≡◌ {A = ℕ} 1 0 = size_is e in omega arith)
-look_tells false true e = absurd (let z : ◌≡◌ {A = ℕ} 0 1 = size_is e in omega arith)
+look_tells true false e = cc
+look_tells false true e = cc
 look_tells false false e = refl
 
 nothing_else : (t : Bool) (v : ℕ) → shown_as t ≡ Value (pos (suc (suc v))) → ⊥
@@ -67,8 +66,8 @@ nothing_else true v e = let z : 1 ≡ suc (suc v) = size_is e in omega arith
 nothing_else false v e = let z : 0 ≡ suc (suc v) = size_is e in omega arith
 
 nothing_below : (t : Bool) (v : ℕ) → shown_as t ≡ Value (negsuc v) → ⊥
-nothing_below true v e = let z : ◌≡◌ {A = ℕ} 0 1 = cc in omega arith
-nothing_below false v e = let z : ◌≡◌ {A = ℕ} 0 1 = cc in omega arith
+nothing_below true v e = cc
+nothing_below false v e = cc
 
 pub tells : {o : BinOperation} {r : Outcome} → Says o r → (n : ℕ) → Right (object_of Bin) (bin_of n) (record { ask = O.Bin o; reply = r }) → Needs (act_of o r) n
 tells (put {i}) n h = by_part n i (λ e. absurd (ok_not_fail (sym (rw e at h)))) (λ e. e)
@@ -123,7 +122,7 @@ terms = record {
   witness = parts_for;
 }
 
-classed : {o : BinOperation} {r : Outcome} → Says o r → class_of o r ≡ Row (row_of (act_of o r)) (pos (part_of o))
+classed : {o : BinOperation} {r : Outcome} → Says o r → class_of o r ≡ in_row (row_of (act_of o r)) (pos (part_of o))
 classed put = refl
 classed put_failed = refl
 classed taken = refl
@@ -140,16 +139,16 @@ sort {o} {r} says = inl (row_of (act_of o r), pos (part_of o), classed says, see
 sorted : (o : BinOperation) (r : Outcome) → exactly.Sorted terms o r
 sorted (Put i) Ok = sort put
 sorted (Put i) Fail = sort put_failed
-sorted (Put i) (Value v) = inr (refl, λ n h. by_part n i (λ e. apart Fail (Value v) refl (rw e at h)) (λ e. apart Ok (Value v) refl (rw e at h)))
+sorted (Put i) (Value v) = inr (refl, λ n h. by_part n i (λ e. let fails = rw e at h in cc) (λ e. let ok = rw e at h in cc))
 sorted (Take i) Ok = sort taken
 sorted (Take i) Fail = sort take_failed
-sorted (Take i) (Value v) = inr (refl, λ n h. by_part n i (λ e. apart Ok (Value v) refl (rw e at h)) (λ e. apart Fail (Value v) refl (rw e at h)))
+sorted (Take i) (Value v) = inr (refl, λ n h. by_part n i (λ e. let ok = rw e at h in cc) (λ e. let fails = rw e at h in cc))
 sorted (Look i) (Value (pos zero)) = sort seen_out
 sorted (Look i) (Value (pos (suc zero))) = sort seen_in
 sorted (Look i) (Value (pos (suc (suc v)))) = inr (refl, λ n h. nothing_else (is_in n i) v h)
 sorted (Look i) (Value (negsuc v)) = inr (refl, λ n h. nothing_below (is_in n i) v h)
-sorted (Look i) Ok = inr (refl, λ n h. apart (shown_as (is_in n i)) Ok refl h)
-sorted (Look i) Fail = inr (refl, λ n h. apart (shown_as (is_in n i)) Fail refl h)
+sorted (Look i) Ok = inr (refl, λ n h. cc)
+sorted (Look i) Fail = inr (refl, λ n h. cc)
 
 -- The table has the request's rule: what needs the same of its part and changes it, on one side or on both, conflicts on the same part.
 abbrev ruled : Bool → Bool → Bool → Bool → Bool
@@ -180,8 +179,8 @@ judged_if false k l = refl
 
 beq_same : (b d : Bool) → beq b d ≡ true → b ≡ d
 beq_same true true e = refl
-beq_same true false e = absurd (true≢false (sym e))
-beq_same false true e = absurd (true≢false (sym e))
+beq_same true false e = cc
+beq_same false true e = cc
 beq_same false false e = refl
 
 beq_self : (b : Bool) → beq b b ≡ true

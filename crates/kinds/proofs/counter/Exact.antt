@@ -19,7 +19,7 @@ use Rattle.kinds.specs.declared.Operation.{Operation}
 use Rattle.kinds.specs.declared.Operation.TheVariants as O
 use Rattle.kinds.specs.declared.outcome.Outcome.{Outcome}
 use Rattle.kinds.specs.declared.outcome.Outcome.TheVariants.{Ok, Fail, Value}
-use Rattle.kinds.proofs.Outcomes.{value_is, apart, ok_not_fail}
+use Rattle.kinds.proofs.Outcomes.{value_is}
 use Rattle.kinds.proofs.Keys.{equal_keys, unequal_keys}
 use Rattle.kinds.proofs.Takes.{Takes}
 use Rattle.kinds.proofs.Takes as takes
@@ -46,11 +46,11 @@ terms = record {
 
 sorted : (o : CounterOperation) (r : Outcome) → exactly.Sorted terms o r
 sorted (Adjust z) Ok = inl (0, z, refl, adjust)
-sorted (Adjust z) Fail = inr (refl, λ s e. ok_not_fail e)
-sorted (Adjust z) (Value v) = inr (refl, λ s e. apart Ok (Value v) refl e)
+sorted (Adjust z) Fail = inr (refl, λ s e. cc)
+sorted (Adjust z) (Value v) = inr (refl, λ s e. cc)
 sorted Count (Value v) = inl (1, pos 0, refl, count)
-sorted Count Ok = inr (refl, λ s e. apart (Value s) Ok refl e)
-sorted Count Fail = inr (refl, λ s e. apart (Value s) Fail refl e)
+sorted Count Ok = inr (refl, λ s e. cc)
+sorted Count Fail = inr (refl, λ s e. cc)
 
 -- 0 adds nothing, and what adds nothing is 0
 adds_nothing : (z s : ℤ) → z ≡ pos 0 → s +ℤ z ≡ s

@@ -21,7 +21,7 @@ use Rattle.kinds.specs.declared.Operation.{Operation}
 use Rattle.kinds.specs.declared.Operation.TheVariants as O
 use Rattle.kinds.specs.declared.outcome.Outcome.{Outcome}
 use Rattle.kinds.specs.declared.outcome.Outcome.TheVariants.{Ok, Fail, Value}
-use Rattle.kinds.proofs.Outcomes.{value_is, size_is, apart, ok_not_fail}
+use Rattle.kinds.proofs.Outcomes.{value_is, size_is}
 use Rattle.kinds.proofs.Keys.{equal_keys, unequal_keys}
 use Rattle.kinds.proofs.Takes.{Takes}
 use Rattle.kinds.proofs.Takes as takes
@@ -48,11 +48,11 @@ terms = record {
 
 sorted : (o : RegisterOperation) (r : Outcome) → exactly.Sorted terms o r
 sorted Read (Value v) = inl (0, v, refl, read)
-sorted Read Ok = inr (refl, λ n e. apart (Value (pos n)) Ok refl e)
-sorted Read Fail = inr (refl, λ n e. apart (Value (pos n)) Fail refl e)
+sorted Read Ok = inr (refl, λ n e. cc)
+sorted Read Fail = inr (refl, λ n e. cc)
 sorted (Write n) Ok = inl (1, pos n, refl, write)
-sorted (Write n) Fail = inr (refl, λ b e. ok_not_fail e)
-sorted (Write n) (Value v) = inr (refl, λ b e. apart Ok (Value v) refl e)
+sorted (Write n) Fail = inr (refl, λ b e. cc)
+sorted (Write n) (Value v) = inr (refl, λ b e. cc)
 
 read_write : (v : ℤ) (m : ℕ) → exactly.Stands terms (read {v = v}) (write {n = m})
 unfolding entry

@@ -1,23 +1,20 @@
-use Rattle.std.proofs.Common.{rules, sym, ◌∙◌, arith}
-use mir.Syntax.{w64}
-use mir.Val.{SFits}
-use mir.ValLaws.{to_z-of_z}
+use Rattle.std.proofs.Common.{rules, sym, ◌+◌, ◌-◌, ◌∙◌, arith, to_z-of_z, w64, SFits}
 use Rattle.runner.proofs.Columns.{columns_start, columns_done, columns_wrong, columns_more}
 use Rattle.runner.proofs.objects_in.Goals as goal
 
-pub returns-in_default : goal.returns-in_default
-returns-in_default c =
-    sym (c.loop-left.invariant.same ∙ columns_wrong _ _ _ _ _ _ (sym c.object_at.ensures ∙ c.in_default.is)) ∙ columns_start _
+pub returns-in_default-clause-objects : goal.returns-in_default-clause-objects
+returns-in_default-clause-objects c = sym (c.loop.invariant.same ∙ columns_wrong _ _ _ _ _ _ (sym c.object_at.ensures ∙ c.in_default.is)) ∙ columns_start _
 
-pub loop-left-preserved : goal.loop-left-preserved
-loop-left-preserved c =
-    let f : SFits w64 c.in-Object.opening = search rules in
+pub loop-preserved : goal.loop-preserved
+loop-preserved c =
+    let fits : SFits w64 c.in-Some.object.opening = search rules in
     record {
-      few = omega arith;
+      counted = omega arith;
       same =
-          rw (to_z-of_z w64 c.in-Object.opening f)
-          (c.loop-left.invariant.same ∙ columns_more _ _ _ _ _ _ _ _ _ c.loop-left-test.true (sym c.object_at.ensures ∙ c.in-Object.is));
+          rw (to_z-of_z fits)
+          (c.loop.invariant.same
+          ∙ columns_more _ _ _ _ (c.args.part.lines - c.loop.counter) _ (c.args.part.lines - (c.loop.counter + 1)) _ _ (omega arith) (sym c.object_at.ensures ∙ c.in-Some.is));
     }
 
-pub returns : goal.returns
-returns c = sym (c.loop-left.invariant.same ∙ columns_done _ _ _ _ _ _ c.loop-left-test.false) ∙ columns_start _
+pub returns-after-loop-clause-objects : goal.returns-after-loop-clause-objects
+returns-after-loop-clause-objects c = sym (c.loop.invariant.same ∙ columns_done _ _ _ _ _ _ (omega arith)) ∙ columns_start _

@@ -1,7 +1,6 @@
-use Rattle.std.proofs.Common.{◌≡◌, Bool}
-use mathlib.Core.Bool.{◌&&◌, and_assoc}
-use mathlib.Core.Path.{◌∙◌}
-use Rattle.form.proofs.Zeros.{one_zero, and_zero}
+use Rattle.std.proofs.Common.{rules, ◌≡◌, ◌∙◌, Bool, ◌&&◌}
+use Rattle.std.proofs.Math.Bool.{and_assoc}
+use Rattle.form.proofs.Zeros.{zeros_and}
 use Rattle.form.proofs.access.blank_from.Goals as goal
 
 in_turn : (a b c d e : Bool) → (a && b && c && d && e) ≡ (a && (b && (c && (d && e))))
@@ -9,9 +8,8 @@ in_turn a b c d e = simp and_assoc
 
 pub returns : goal.returns
 returns c =
-    in_turn c.zero8_from.result c.zero8_from-2.result c.zero64_from.result c.zero8_from-3.result c.zero64_from-2.result
-    ∙ and_zero _ _ _ _ c.told-object _ c.zero8_from.ensures _ _
-    (and_zero _ _ _ _ c.told-operation _ c.zero8_from-2.ensures _ _
-    (and_zero _ _ _ _ c.told-argument _ c.zero64_from.ensures _ _
-    (and_zero _ _ _ _ c.told-outcome _ c.zero8_from-3.ensures _ _
-    (one_zero _ _ _ _ c.told-value _ c.zero64_from-2.ensures))))
+    in_turn c.zero_from.result c.zero_from-2.result c.zero_from-3.result c.zero_from-4.result c.zero_from-5.result
+    ∙ zeros_and _ _ _ _ _ _ _ c.zero_from.ensures (search rules)
+    (zeros_and _ _ _ _ _ _ _ c.zero_from-2.ensures (search rules)
+    (zeros_and _ _ _ _ _ _ _ c.zero_from-3.ensures (search rules)
+    (zeros_and _ _ _ _ _ _ _ c.zero_from-4.ensures (search rules) (search rules))))

@@ -1,15 +1,16 @@
-use Rattle.std.proofs.Common.{◌∙◌, sym, arith}
+use Rattle.std.proofs.Common.{arith, ◌∙◌, sym}
 use Rattle.written.proofs.Items.{ends_done, ends_wrong, ends_more}
 use Rattle.runfile.proofs.check.lines_end.Goals as goal
 
-pub returns-in_default : goal.returns-in_default
-returns-in_default c = sym (c.loop-left.invariant.same ∙ ends_wrong _ _ _ c.loop-left-test.true (sym c.next_in.ensures ∙ c.in_default.is))
+pub returns-in_default-clause-reads : goal.returns-in_default-clause-reads
+returns-in_default-clause-reads g c line h = sym (c.loop.invariant.same line h ∙ ends_wrong line _ _ (omega arith) (sym (h _ _ c.in_default.ensures)))
 
-pub loop-left-preserved : goal.loop-left-preserved
-loop-left-preserved c = record {
-  few = omega arith;
-  same = c.loop-left.invariant.same ∙ ends_more _ _ _ _ c.loop-left-test.true (sym c.next_in.ensures ∙ c.in-Line.is);
-}
+pub loop-preserved : goal.loop-preserved
+loop-preserved g c =
+    record {
+      counted = omega arith;
+      same = λ line h. c.loop.invariant.same line h ∙ ends_more line _ _ _ _ _ (omega arith) (sym (h _ _ c.in-Some.ensures));
+    }
 
-pub returns : goal.returns
-returns c = sym (c.loop-left.invariant.same ∙ ends_done _ _ _ c.loop-left-test.false)
+pub returns-clause-reads : goal.returns-clause-reads
+returns-clause-reads g c line h = sym (c.loop.invariant.same line h ∙ ends_done line _ _ (omega arith))

@@ -1,14 +1,12 @@
-use Rattle.std.proofs.Common.{◌≡◌, ◌+◌, ◌≤◌}
-use Rattle.written.specs.Written.{calls_most, bytes_most}
+use Rattle.std.proofs.Common.{◌≡◌, ℕ, ◌+◌, ◌-◌, Option}
 use Rattle.written.specs.Items.{ends_from}
-use Rattle.written.specs.Check.{next_in}
+use Rattle.written.specs.Check.{Reads}
 use Rattle.runfile.proofs.check.lines_end.Given as goal
 
-abbrev pub invariant-loop-left : goal.invariant-loop-left
-invariant-loop-left l = record {
-  few : l.line + l.left ≤ bytes_most + 1 + calls_most;
-  same : ends_from (next_in l.file l.section) l.lines (record { at = l.initial.at; line = l.initial.line }) ≡ ends_from (next_in l.file l.section) l.left (record { at = l.at; line = l.line });
+abbrev pub invariant-loop : goal.invariant-loop
+invariant-loop g l = record {
+  counted : l.line ≡ l.fn.place.line + l.counter;
+  same :
+      (line : ℕ → Option (_ × ℕ)) → Reads (goal.F-post g l.read) line
+      → ends_from line l.lines l.fn.place ≡ ends_from line (l.lines - l.counter) (record { at = l.at; line = l.line });
 }
-
-abbrev pub decreases-loop-left : goal.decreases-loop-left
-decreases-loop-left l = l.left
