@@ -24,7 +24,8 @@ use Rattle.refusal.proofs.Codes.{code_some}
 use Rattle.refusal.specs.Order.{first_code, ask_order}
 use Rattle.store.specs.Refusal.{reply_of}
 use Rattle.refusal.specs.Exact.{NoneHolds}
-use Rattle.store.specs.Respond.{asking_of, blocks_for, wait_for, awaited, responded, must_wait, ask_refusals, respond_of}
+use Rattle.store.specs.Respond.{asking_of, blocks_for, wait_for, responded, must_wait, ask_refusals, respond_of}
+use Rattle.store.specs.Awaited.{awaited}
 use Rattle.store.proofs.Facts.{form_facts}
 use Rattle.store.proofs.Found.{found_is, found_small, past_all}
 use Rattle.refusal.proofs.Order.{none_first}

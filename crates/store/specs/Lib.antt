@@ -3,6 +3,7 @@ pub mod Form
 pub mod Refusal
 pub mod Create
 pub mod Respond
+pub mod Awaited
 pub mod Finish
 pub mod Open
 pub mod Effects

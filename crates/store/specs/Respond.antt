@@ -1,6 +1,6 @@
 -- Respond. Source: document 01, "Calls, answers and their order" and "Lists of work".
 use Rattle.std.specs.Prelude.{ℕ, ◌+◌, Bool, not, List, [], ◌∷◌, ◌++◌, pos, set, eqb, ltb, Option, Some, None}
-use Rattle.below.specs.Below.{first_below, found_below}
+use Rattle.below.specs.Below.{first_below}
 use Rattle.kinds.specs.declared.State.{State}
 use Rattle.kinds.specs.declared.outcome.Outcome.TheVariants.{Fail}
 use Rattle.kinds.specs.declared.outcome.Numbers.{Numbers}
@@ -34,10 +34,6 @@ blocks_for s t asking =
 abbrev pub wait_for : Store → ℕ → Option Answered → ℕ
 wait_for s t (Some asking) = first_below (rows_of s) (blocks_for s t asking)
 wait_for s t None = rows_of s
-
--- the lowest-numbered such access, if there is one
-abbrev pub awaited : Store → ℕ → Answered → Option ℕ
-awaited s t asking = found_below (rows_of s) (blocks_for s t asking)
 
 -- a and b of the result; where nothing fits, which no form allows, those of FAIL
 abbrev pub result_of : Option Answered → Numbers

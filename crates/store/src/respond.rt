@@ -2,7 +2,8 @@
 ghost use Rattle.std.specs.Prelude.{◌≡◌, true, ◌≤◌, Some};
 ghost use Rattle.columns.specs.Column.{at};
 ghost use Rattle.store.specs.Form.{in_form};
-ghost use Rattle.store.specs.Respond.{asking_of, awaited, respond_of};
+ghost use Rattle.store.specs.Awaited.{awaited};
+ghost use Rattle.store.specs.Respond.{asking_of, respond_of};
 
 use crate::{Reply, Store};
 use kinds::{Answered, Numbers};
