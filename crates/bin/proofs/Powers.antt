@@ -5,7 +5,7 @@ use lib.Pow.{shl_exact}
 use Rattle.kinds.specs.Bin.{is_in, part_most}
 use Rattle.kinds.proofs.Digits.{put_fits}
 
-power : (i : ℕ) → i ≤ part_most → (1 * 2 ^ i) % 2 ^ 32 ≡ 2 ^ i
+pub power : (i : ℕ) → i ≤ part_most → (1 * 2 ^ i) % 2 ^ 32 ≡ 2 ^ i
 power i h = shl_exact {a = 1} 1 i 32 (omega arith) (omega arith) ∙ one-mul (2 ^ i)
 
 -- a part that is out can be put in: 32 digits hold the sum

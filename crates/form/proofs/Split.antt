@@ -91,7 +91,7 @@ module _ (count listed : ℕ) (order place : List ℕ) (few : listed ≤ places_
               let some : at place k ≡ 0 → ⊥ = eqb-false _ _ n in
               omega (arith, entry_known (at place k - 1) (omega arith))
 
-      lists_split : count ≤ count_most → all_below rows_most (list_row parent outcome listed order holder place)
+      pub lists_split : count ≤ count_most → all_below rows_most (list_row parent outcome listed order holder place)
           ≡ (all_from (count + 1) rows_most (λ k. eqb (at place k) 0 && eqb (at holder k) 0)
           && all_below (count + 1) (list_row parent outcome listed order holder place))
       lists_split few =

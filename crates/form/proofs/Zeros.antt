@@ -27,7 +27,7 @@ or_zero a b =
     (λ n. rw (ne_eqb a 0 n) (ne_eqb (bit_or a b) 0 (λ e. omega (arith, or_add_and a b, and_le_r a b)))) (same_or a 0)
 
 -- no bits are those of zero alone
-bits_zero : (x : ℤ) → SFits w64 x → eqb (of_z w64 x) 0 ≡ is_zero x
+pub bits_zero : (x : ℤ) → SFits w64 x → eqb (of_z w64 x) 0 ≡ is_zero x
 bits_zero (pos n) f = refl
 bits_zero (negsuc n) f = ne_eqb (2 ^ 64 - suc n) 0 (λ e. let s : n < 2 ^ 63 = f.sfits in omega arith)
 

@@ -1,13 +1,32 @@
--- What holds of what f makes of a number that is tested against a range.
-use mathlib.Core.Path.{◌≡◌}
+-- What f makes of a number that is tested against a range, and what holds of it.
+use mathlib.Core.Path.{◌≡◌, refl, ap, ◌∙◌}
 use mathlib.Core.Bool.{Bool, true, false, cond, ◌&&◌, and-eq-true_iff}
 use mathlib.Core.Logic.{⊎_elim}
 use Prim.Native.Nat.{ℕ, ◌≤◌}
+use native.Mathlib.Omega.{arith}
 use lib.IntN.{ℤ, pos, negsuc, nat_abs}
-use lib.Signed.{le_z}
-use borrow.Author.Tests.{leb-true}
+use lib.Signed.{le_z, lt_z}
+use mir.Syntax.{w64}
+use mir.Val.{SFits, to_z, of_z}
+use mir.Facts.{to_z-of_z}
+use borrow.Author.Tests.{leb-true, ltb-false, le-leb}
 use Rattle.below.proofs.Tests.{bool_or}
 use Rattle.kinds.specs.Range.{in_range, in_signed}
+
+pub not_below_le : (a b : ℤ) → lt_z a b ≡ false → le_z b a ≡ true
+not_below_le (pos m) (pos n) e = le-leb n m (ltb-false m n e)
+not_below_le (pos m) (negsuc n) e = refl
+not_below_le (negsuc m) (pos n) e = absurd (let z : ◌≡◌ {A = ℕ} 0 1 = cc in omega arith)
+not_below_le (negsuc m) (negsuc n) e = le-leb m n (ltb-false n m e)
+
+-- where neither test of a range fails
+pub in_range_lem : {A : Type 0} (f : ℤ → A) (other : A) (x low high : ℤ) → lt_z x low ≡ false → lt_z high x ≡ false → f x ≡ in_signed x low high f other
+in_range_lem f other x low high e g = rw (not_below_le x low e, not_below_le high x g)
+
+-- what the machine's 64 bits of a number are told, the number is
+pub at_z_lem : {Told : Type 0} (f : ℤ → Told) (out : Told) (low high : ℤ) {r : Told} {z : ℤ}
+    → r ≡ in_signed (to_z w64 (of_z w64 z)) low high f out → SFits w64 z → r ≡ in_signed z low high f out
+at_z_lem f out low high told fits = told ∙ ap (λ (y : ℤ). in_signed y low high f out) (to_z-of_z fits)
 
 -- what holds of f at each number in the range, and of the other, holds of what f makes of the number tested
 module _ {A : Type 0} (P : A → Type 0) where

@@ -97,7 +97,7 @@ module _ (listed : ℕ) (order holder object : List ℕ) (o : ℕ) (fit : listed
   self_linked = record { chains = λ u h. subst (Chain next (at head u)) (sym (chain_own u h)) (links.chains u h) }
 
   module _ (parent : List ℕ) (n : ℕ) (low : Lower n (at parent)) (b : n ≤ rows_most) (t : ℕ) (h : t < n) (kind : Kind) (opening : ℤ) (start : State) (e : start ≡ start_of (opened_of kind opening)) where
-    chain_view : view_in parent (chain_at head next) t ≡ view_in parent own t
+    pub chain_view : view_in parent (chain_at head next) t ≡ view_in parent own t
     chain_view = view_same parent (chain_at head next) own n low (λ u l. chain_own u (omega arith)) t h
 
     pub chain_room : opens (opened_of kind opening) ≡ true → Left kind (length (view_in parent (chain_at head next) t)) start

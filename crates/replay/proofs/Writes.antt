@@ -86,7 +86,7 @@ module _ (asked : ℕ → Option Operation) where
 
 -- the nearest, one level at a time
 module _ (parent last : List ℕ) (t : ℕ) where
-  nearest_root : t ≡ 0 → nearest_in parent last t ≡ at last t
+  pub nearest_root : t ≡ 0 → nearest_in parent last t ≡ at last t
   nearest_root z = rw z (climb_root (at parent) (at last 0) _)
 
   nearest_step : Lower (t + 1) (at parent) → (t ≡ 0 → ⊥) → nearest_in parent last t ≡ or_else (at last t) (nearest_in parent last (at parent t))
@@ -94,16 +94,14 @@ module _ (parent last : List ℕ) (t : ℕ) where
 
   -- t has a last write, or is the root and has none, or what is above it decides
   module _ (own : ℕ) (e : own ≡ at last t) where
-    pub nearest_own : Lower (t + 1) (at parent) → (own ≡ 0 → ⊥) → Some own ≡ noted (nearest_in parent last t)
-    nearest_own low n =
-        let q : nearest_in parent last t ≡ own = ⊎_elim (λ z. nearest_root z ∙ sym e) (λ z. nearest_step low z ∙ rw (← e, ne_eqb own 0 n)) (same_or t 0) in
-        rw (q, ne_eqb own 0 n)
+    pub nearest_own : Lower (t + 1) (at parent) → (own ≡ 0 → ⊥) → own ≡ nearest_in parent last t
+    nearest_own low n = sym (⊎_elim (λ z. nearest_root z ∙ sym e) (λ z. nearest_step low z ∙ rw (← e, ne_eqb own 0 n)) (same_or t 0))
 
-    pub nearest_none : own ≡ 0 → t ≡ 0 → None ≡ noted (nearest_in parent last t)
-    nearest_none n z = rw (nearest_root z ∙ sym e ∙ n)
+    pub nearest_none : own ≡ 0 → t ≡ 0 → 0 ≡ nearest_in parent last t
+    nearest_none n z = sym (nearest_root z ∙ sym e ∙ n)
 
-    pub nearest_above : Lower (t + 1) (at parent) → own ≡ 0 → (t ≡ 0 → ⊥) → (p : ℕ) → p ≡ at parent t → (r : Option ℕ) → r ≡ noted (nearest_in parent last p)
-        → r ≡ noted (nearest_in parent last t)
+    pub nearest_above : Lower (t + 1) (at parent) → own ≡ 0 → (t ≡ 0 → ⊥) → (p : ℕ) → p ≡ at parent t → (r : ℕ) → r ≡ nearest_in parent last p
+        → r ≡ nearest_in parent last t
     nearest_above low n z p q r h = h ∙ rw (q, nearest_step low z, ← e, n)
 
 -- a register after the view of t
@@ -173,7 +171,7 @@ module _ (asked : ℕ → Option Operation) (order holder object : List ℕ) (li
     noted_skip n = record { size = c.size; lasts = λ u h. c.lasts u h ∙ sym (ap (last_write asked) (past_other order holder object listed o i x z b e n u)) }
 
     module _ (h : ℕ) (q : at object x ≡ o) (w : h ≡ at holder x) where
-      noted_turn : (out : List ℕ) → length out ≡ rows_most
+      pub noted_turn : (out : List ℕ) → length out ≡ rows_most
           → at out h ≡ or_else (at last h) (cond (is_write (asked x)) x 0) → ((u : ℕ) → (u ≡ h → ⊥) → at out u ≡ at last u) → Noted (i - 1) out
       noted_turn out size here there = record {
         size = size;

@@ -44,18 +44,30 @@ fn last_writes(lists: &Lists, accesses: &Accesses, o: u8) -> [u16; ROWS]
     last
 }
 
+// The nearest of the last writes, from t up to the root; 0 is none. The compiler makes a loop of a recursion that answers a number, and of one that answers an
+// `Option` a call for each level.
+fn nearest_or_zero(tree: &Tree, last: &[u16; ROWS], t: usize) -> usize
+    requires { (t < rows_most) × Lower (t + 1) (at tree.now.parent) }
+    ensures { result ≡ nearest_in tree.now.parent last.now t }
+{
+    let own = usize::from(last[t]);
+    if own != 0 {
+        own
+    } else if t == 0 {
+        0
+    } else {
+        nearest_or_zero(tree, last, tree.parent_of(t))
+    }
+}
+
 // The nearest of the last writes, from t up to the root.
 fn nearest(tree: &Tree, last: &[u16; ROWS], t: usize) -> Option<usize>
     requires { (t < rows_most) × Lower (t + 1) (at tree.now.parent) }
     ensures { result ≡ noted (nearest_in tree.now.parent last.now t) }
 {
-    let own = usize::from(last[t]);
-    if own != 0 {
-        Some(own)
-    } else if t == 0 {
-        None
-    } else {
-        nearest(tree, last, tree.parent_of(t))
+    match nearest_or_zero(tree, last, t) {
+        0 => None,
+        x => Some(x),
     }
 }
 

@@ -58,7 +58,7 @@ module _ (s : Store) (p : ℕ) (child : Child) where
   pub create_asks : (fine : Bool) → fine ≡ in_form s → fine ≡ true → (s.tree.count ≤ count_most) × (s.objects.count ≤ objects_most) × Rooted s.tree.parent
   create_asks fine e t = let f = form_facts s (sym e ∙ t) in (f.tree.few, f.objects.few, rooted s f)
 
-  create_decides : (fine : Bool) (c : ℕ) → fine ≡ in_form s → c ≡ first_code (create_order fine s.tree.count s.tree.parent s.tree.state s.accesses.operation s.objects.count s.objects.kind p child) → c ≡ first_code (create_refusals s p child)
+  pub create_decides : (fine : Bool) (c : ℕ) → fine ≡ in_form s → c ≡ first_code (create_order fine s.tree.count s.tree.parent s.tree.state s.accesses.operation s.objects.count s.objects.kind p child) → c ≡ first_code (create_refusals s p child)
   create_decides fine c e q =
       q ∙ ap (λ b. first_code (create_order b s.tree.count s.tree.parent s.tree.state s.accesses.operation s.objects.count s.objects.kind p child)) e
 

@@ -60,7 +60,7 @@ pub finish_asks : (s : Store) (fine : Bool) → fine ≡ in_form s → fine ≡ 
 finish_asks s fine e t = let f = form_facts s (sym e ∙ t) in (f.tree.few, rooted s f)
 
 module _ (s : Store) (t : ℕ) where
-  finish_decides : (fine : Bool) (c : ℕ) → fine ≡ in_form s → c ≡ first_code (finish_order fine s.tree.count s.tree.parent s.tree.state t) → c ≡ first_code (abort_refusals s t)
+  pub finish_decides : (fine : Bool) (c : ℕ) → fine ≡ in_form s → c ≡ first_code (finish_order fine s.tree.count s.tree.parent s.tree.state t) → c ≡ first_code (abort_refusals s t)
   finish_decides fine c e q = q ∙ ap (λ b. first_code (finish_order b s.tree.count s.tree.parent s.tree.state t)) e
 
   -- where no refusal is given

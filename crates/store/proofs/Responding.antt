@@ -62,7 +62,7 @@ module _ (s : Store) (t : ℕ) where
         blank = eqb-true (at s.accesses.outcome t) 0 (not-false _ (n 6 (omega arith)));
       }
 
-  ask_decides : (fine : Bool) (c : ℕ) → fine ≡ in_form s → c ≡ first_code (ask_order fine s.tree.count s.tree.parent s.tree.state s.accesses.operation s.accesses.outcome t) → c ≡ first_code (ask_refusals s t)
+  pub ask_decides : (fine : Bool) (c : ℕ) → fine ≡ in_form s → c ≡ first_code (ask_order fine s.tree.count s.tree.parent s.tree.state s.accesses.operation s.accesses.outcome t) → c ≡ first_code (ask_refusals s t)
   ask_decides fine c e q = q ∙ ap (λ b. first_code (ask_order b s.tree.count s.tree.parent s.tree.state s.accesses.operation s.accesses.outcome t)) e
 
   -- where no refusal is given

@@ -1,6 +1,6 @@
 use Rattle.std.proofs.Common.{rules}
 use Rattle.replay.proofs.Writes.{nearest_own, nearest_none, nearest_above}
-use Rattle.replay.proofs.write.+nearest.Goals as goal
+use Rattle.replay.proofs.write.+nearest_or_zero.Goals as goal
 
 pub returns-then-own-ne0 : goal.returns-then-own-ne0
 returns-then-own-ne0 t c = search (rules, nearest_own)
