@@ -49,8 +49,7 @@ fn access_at(file: &[u8], at: usize) -> Option<(Call, usize)>
     Some((Call::Access(parent, object, operation, argument), next))
 }
 
-// The call of a line, with the place of the next line. Part of its callers, which read what `access_at` answers where it stands: a copy of it costs a third of
-// the reading of a short line.
+// The call of a line, with the place of the next line. Part of its callers, so that what `access_at` answers is read where it stands, and not copied.
 #[inline(always)]
 pub fn call_at(file: &[u8], at: usize) -> Option<(Call, usize)>
     ensures { result ≡ call_at file.now at }
